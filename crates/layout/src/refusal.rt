@@ -1,0 +1,46 @@
+// The numbers of the refusals (document 01, "Numbers on the refusal slip"). specs/Refusal.antt has the same rows.
+
+// A descriptor not of 76 bytes, a card not of 32, a stack not of whole cards or of over 1,024.
+pub const WRONG_LENGTH: u8 = 1;
+
+// Bytes 0 to 11 of a descriptor are wrong.
+pub const WRONG_HEADER: u8 = 2;
+
+// Its bytes 12 to 15 are: model, primaries, transfer, flags.
+pub const WRONG_COLOR: u8 = 3;
+
+// Its bytes 16 to 27 are: block sizes and bytes of planes.
+pub const WRONG_PLANES: u8 = 4;
+
+// A sample's offset, length, channel, position or order is.
+pub const WRONG_SAMPLE: u8 = 5;
+
+// The lower and upper numbers of its samples state no one range.
+pub const NO_RANGE: u8 = 6;
+
+// The edition asked is not one of ours.
+pub const UNKNOWN_EDITION: u8 = 7;
+
+// The card needs a later edition than the one asked.
+pub const LATER_EDITION: u8 = 8;
+
+// A card field, layout, range, depth, channel or weights row is outside the paper.
+pub const OUTSIDE: u8 = 9;
+
+// The access number is above those that the card's writer had.
+pub const UNKNOWN_ACCESS: u8 = 10;
+
+// The edition asked can't write this layout or this access.
+pub const UNWRITABLE: u8 = 11;
+
+// A float is not a number.
+pub const NOT_A_NUMBER: u8 = 12;
+
+// A line is not of whole points or of over 4,096, or an output not exactly as long as needed.
+pub const WRONG_LINE: u8 = 13;
+
+// A code is above 2^n - 1.
+pub const CODE_TOO_HIGH: u8 = 14;
+
+// No card that the edition reads has the item.
+pub const NO_ITEM: u8 = 15;

@@ -1,0 +1,17 @@
+-- Little-endian numbers: document 01, "Layout" (a point is one) and "Descriptor". Assumes nothing.
+use mathlib.Core.List.{List, [], _∷_}
+use Prim.Native.Nat.{ℕ, zero, suc, _+_, _*_, _/_, _%_, _^_}
+
+-- the number that the bytes stand for, the lowest byte first
+unfoldable pub little : List ℕ → ℕ
+little [] = 0
+little (b ∷ bs) = b + 256 * little bs
+
+-- byte j of the number v, the lowest being byte 0
+abbrev pub byteOf : ℕ → ℕ → ℕ
+byteOf v j = v / 256 ^ j % 256
+
+-- the lowest k bytes of the number v
+unfoldable pub bytesOf : ℕ → ℕ → List ℕ
+bytesOf zero v = []
+bytesOf (suc k) v = v % 256 ∷ bytesOf k (v / 256)
