@@ -20,6 +20,15 @@ use Rattle.quantization.proofs.Codes.{Small, code-of-value, whole-same,
 abbrev U : ℕ
 U = 2 ^ 149
 
+-- a field of 1 to 254
+pub finite : (s : Bool) (t x : ℕ) → suc x < 255 → ofFields binary32 s (suc x) t ≡ odd 24 s (2 ^ 23 + t) x 149
+unfolding ofFields
+finite s t x h = go (eqb (suc x) 255) (eqb→eq (suc x) 255)
+  where
+    go : (b : Bool) → (T b → suc x ≡ 255) → cond b (cond (eqb t 0) (inf s) nan) (odd 24 s (2 ^ 23 + t) x 149) ≡ odd 24 s (2 ^ 23 + t) x 149
+    go true e = let q : suc x ≡ 255 = e tt in absurd (omega arith)
+    go false e = refl
+
 module _ (sc : Scale) (k : Small sc) (s : Bool) (t : ℕ) (d : t < 2 ^ 23) where
   abbrev digits : ℕ
   digits = 2 ^ 23 + t
@@ -27,16 +36,8 @@ module _ (sc : Scale) (k : Small sc) (s : Bool) (t : ℕ) (d : t < 2 ^ 23) where
   by-units : (x : ℕ) → codeOf sc (odd 24 s digits x 149) ≡ At (wholeCode sc s (digits * 2 ^ x) U)
   by-units x = code-of-value sc (odd 24 s digits x 149) s (digits * 2 ^ x) U (pow-pos 149) (odd-sign 24 s digits x 149)
 
-  finite : (x : ℕ) → suc x < 255 → ofFields binary32 s (suc x) t ≡ odd 24 s digits x 149
-  unfolding ofFields
-  finite x h = go (eqb (suc x) 255) (eqb→eq (suc x) 255)
-    where
-      go : (b : Bool) → (T b → suc x ≡ 255) → cond b (cond (eqb t 0) (inf s) nan) (odd 24 s digits x 149) ≡ odd 24 s digits x 149
-      go true e = let q : suc x ≡ 255 = e tt in absurd (omega arith)
-      go false e = refl
-
   normal : (x : ℕ) → suc x < 255 → codeOf sc (ofFields binary32 s (suc x) t) ≡ At (wholeCode sc s (digits * 2 ^ x) U)
-  normal x h = ap (codeOf sc) (finite x h) ∙ by-units x
+  normal x h = ap (codeOf sc) (finite s t x h) ∙ by-units x
 
   -- less than half a code from base
   small : (a : ℕ) → a ≤ 2 ^ 132 → wholeCode sc s a U ≡ bounded (sc .low) (sc .high) (sc .base)

@@ -1,6 +1,6 @@
 pub mod Codes
 mod Answers
-mod Fields
+pub mod Fields
 mod Floats
 pub mod Quotients
 pub mod Scales

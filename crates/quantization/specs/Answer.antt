@@ -2,6 +2,7 @@
 use Prim.Native.Nat.{ℕ}
 use mathlib.Core.Bool.{Bool, not, cond, _&&_}
 use lib.Dec.{ltb}
+use lib.IntN.{ℤ, pos, negℤ}
 use lib.Ieee.{Float}
 use Rattle.layout.specs.declared.kind.Kind.{Kind}
 use Rattle.layout.specs.declared.kind.Kind.the-variants.{Brightness as brightness, Difference as difference}
@@ -39,6 +40,18 @@ dequantized model range n channel code =
     (cond (ltb (topOf n) code) (NoValue codeTooHigh)
     (named (kindOf model channel) (valueOf (channelScale model range n channel) code)))
 
+-- in the paper's terms: 0 for a brightness, 1 for a difference, minus its number for a refusal
+abbrev pub dequantizedNumber : Dequantized → ℤ
+dequantizedNumber (Brightness v) = pos 0
+dequantizedNumber (Difference v) = pos 1
+dequantizedNumber (NoValue k) = negℤ (pos k)
+
+-- and the float, or what stood in its place before where it is refused
+abbrev pub dequantizedValue : Dequantized → Float → Float
+dequantizedValue (Brightness v) before = v
+dequantizedValue (Difference v) before = v
+dequantizedValue (NoValue k) before = before
+
 -- a code, or the refusal of a NaN
 abbrev pub coded : Coded → Quantized
 coded (At c) = Code c
@@ -50,3 +63,8 @@ unfolding codeOf
 quantized model range n channel v =
     cond (not (known model range n channel)) (NoCode outside)
     (coded (codeOf (channelScale model range n channel) v))
+
+-- in the paper's terms: the code, or minus its number for a refusal
+abbrev pub quantizedNumber : Quantized → ℤ
+quantizedNumber (Code c) = pos c
+quantizedNumber (NoCode k) = negℤ (pos k)

@@ -1,0 +1,82 @@
+-- A code, as a float and back, is the code: rounding moves span * value by less than half a code. Assumes nothing.
+use mathlib.Core.Path.{_≡_, refl, sym, ap, _∙_, subst}
+use Prim.Native.Nat.{ℕ, _+_, _-_, _*_, _/_, _^_, _≤_, _<_}
+use native.Mathlib.Nat.{add-mul}
+use native.Mathlib.Omega.{arith}
+use mathlib.Core.Bool.{Bool, true, false, not, _&&_}
+use lib.Dec.{T, ltb, ltb→lt, nltb→le}
+use lib.Pow.{pow-pos}
+use lib.Ieee.{Float, binary32}
+use lib.Ieee.Order.{drop, kept}
+use lib.Ieee.Scale.{grid}
+use Rattle.lists.proofs.Tests.{and-left, and-right}
+use Rattle.layout.specs.declared.range.Range.{Range}
+use Rattle.layout.specs.declared.range.Range.the-variants.{Narrow, Full}
+use Rattle.layout.specs.declared.kind.Kind.{Kind}
+use Rattle.layout.specs.declared.kind.Kind.the-variants.{Brightness, Difference}
+use Rattle.layout.specs.Layout.{modelKnown, rangeKnown, rangeOf, depthKnown, stepOf, topOf, channelKnown, kindOf}
+use Rattle.layout.proofs.Depths.{Steps, steps, known-range}
+use Rattle.quantization.specs.declared.scale.Scale.{Scale}
+use Rattle.quantization.specs.declared.nearest.Coded.{Coded}
+use Rattle.quantization.specs.declared.nearest.Coded.the-variants.{At}
+use Rattle.quantization.specs.Scale.{scaleOf}
+use Rattle.quantization.specs.Value.{valueOf}
+use Rattle.quantization.specs.Code.{codeOf}
+use Rattle.quantization.specs.Whole.{bounded, moved, wholeCode}
+use Rattle.quantization.proofs.Codes.{Small, code-of-value, quotient-is}
+use Rattle.quantization.proofs.Scales.{scaleBy, by-step}
+use Rattle.quantization_laws.proofs.Units.{Near, U, unit, unit-lt, kept-near, grid-is, round-value}
+use Rattle.quantization_laws.proofs.Values.{gap, value-rounds}
+
+-- within half a code of c
+lands : (sc : Scale) (c g u b : ℕ) → b < u → Near (sc .span * g) (gap c (sc .base) * u) b → wholeCode sc (ltb c (sc .base)) g u ≡ bounded (sc .low) (sc .high) c
+unfolding Near
+lands sc c g u b B n = ap (bounded (sc .low) (sc .high)) (go (ltb c (sc .base)) (ltb→lt c (sc .base)) (nltb→le c (sc .base)))
+  where
+    go : (t : Bool) → (T t → c < sc .base) → (T (not t) → sc .base ≤ c) → moved t (2 * (sc .base * u) + u) (2 * (sc .span * g)) / (2 * u) ≡ c
+    go true l r =
+        let l' : c < sc .base = l tt in
+        let e : sc .base ≡ c + gap c (sc .base) = omega arith in
+        let f : sc .base * u ≡ c * u + gap c (sc .base) * u = ap (λ (x : ℕ). x * u) e ∙ add-mul c (gap c (sc .base)) u in
+        quotient-is c (2 * (sc .base * u) + u - 2 * (sc .span * g)) u (omega arith) (omega arith)
+    go false l r =
+        let r' : sc .base ≤ c = r tt in
+        let e : c ≡ sc .base + gap c (sc .base) = omega arith in
+        let f : c * u ≡ sc .base * u + gap c (sc .base) * u = ap (λ (x : ℕ). x * u) e ∙ add-mul (sc .base) (gap c (sc .base)) u in
+        quotient-is c (2 * (sc .base * u) + u + 2 * (sc .span * g)) u (omega arith) (omega arith)
+
+-- at any scale: the code, clamped
+pub back : (sc : Scale) → Small sc → 0 < sc .span → (c : ℕ) → c < 2 ^ 16 → codeOf sc (valueOf sc c) ≡ At (bounded (sc .low) (sc .high) c)
+back sc k S c h =
+    let s = ltb c (sc .base) in
+    let d = gap c (sc .base) in
+    let p = sc .span in
+    let D : d < 65536 = omega arith in
+    let g = grid binary32 d p in
+    ap (codeOf sc) (value-rounds sc c S)
+    ∙ code-of-value sc _ s g U (pow-pos 149) (round-value d p S (k .span) D s)
+    ∙ ap At (lands sc c g U (unit d p) (unit-lt d p S (k .span) D) (subst (λ (x : ℕ). Near x (d * U) (unit d p)) (sym (grid-is d p S (k .span) D)) (kept-near d p S (k .span) D)))
+
+-- ---- the paper's scales, once over n
+pub record Paper (n : ℕ) (sc : Scale) : Type 0 where
+  pub small : Small sc
+  pub some : 0 < sc .span
+  pub low : sc .low ≡ 0
+  pub high : sc .high ≡ topOf n
+
+by-steps : (r : Range) (k : Kind) (n : ℕ) → Steps n → Paper n (scaleBy r (stepOf n) (topOf n) k)
+by-steps Narrow Brightness n h = omega arith
+by-steps Narrow Difference n h = omega arith
+by-steps Full Brightness n h = omega arith
+by-steps Full Difference n h = omega arith
+
+pub paper : (r : Range) (k : Kind) (n : ℕ) → 8 ≤ n → n ≤ 12 → Paper n (scaleOf r n k)
+paper r k n lo hi = let h = steps n lo hi in subst (Paper n) (by-step r k n h) (by-steps r k n h)
+
+-- every code of every range, kind and depth comes back
+pub code-returns : (r : Range) (k : Kind) (n c : ℕ) → 8 ≤ n → n ≤ 12 → c ≤ topOf n → codeOf (scaleOf r n k) (valueOf (scaleOf r n k) c) ≡ At c
+code-returns r k n c lo hi h =
+    let sc = scaleOf r n k in
+    let q = paper r k n lo hi in
+    let t = steps n lo hi in
+    back sc (q .small) (q .some) c (omega arith) ∙ ap At (omega arith)

@@ -1,0 +1,44 @@
+-- The value of a code as a sign and a fraction of natural numbers. Assumes nothing.
+use mathlib.Core.Path.{_≡_, refl, sym, ap, ap₂, _∙_}
+use Prim.Native.Nat.{ℕ, suc, _+_, _-_, _≤_, _<_}
+use native.Mathlib.Omega.{arith}
+use mathlib.Core.Bool.{Bool, true, false}
+use borrow.Author.Tests.{lt-ltb, le-ltb}
+use lib.Dec.{ltb}
+use lib.IntN.{ℤ, pos, negsuc, _-ℤ_}
+use lib.Ieee.{Float, binary32, round}
+use Rattle.fractions.specs.Fraction.{Fraction, _over_}
+use Rattle.fractions.proofs.Integers.{minus-cases}
+use Rattle.quantization.specs.declared.scale.Scale.{Scale}
+use Rattle.quantization.specs.Value.{rounded, valueOf}
+use Rattle.quantization.specs.Code.{signed}
+use Rattle.quantization.proofs.Quotients.{over-some}
+
+-- |a - b|
+abbrev pub gap : ℕ → ℕ → ℕ
+gap a b = (a - b) + (b - a)
+
+-- a - b is its sign and its size
+pub by-sign : (a b : ℕ) → pos a -ℤ pos b ≡ signed (ltb a b) (gap a b)
+by-sign a b =
+    minus-cases (λ (z : ℤ). z ≡ signed (ltb a b) (gap a b)) a b
+    (λ l.
+    let e : gap a b ≡ a - b = omega arith in
+    rw (le-ltb a b l, e))
+    (λ l.
+    let e : gap a b ≡ suc (b - suc a) = omega arith in
+    rw (lt-ltb a b l, e))
+
+rounds : (a b p : ℕ) → rounded (pos a -ℤ pos b) p ≡ round binary32 (ltb a b) (gap a b) p
+rounds a b p =
+    minus-cases (λ (z : ℤ). rounded z p ≡ round binary32 (ltb a b) (gap a b) p) a b
+    (λ l.
+    let e : gap a b ≡ a - b = omega arith in
+    rw (le-ltb a b l, e))
+    (λ l.
+    let e : gap a b ≡ suc (b - suc a) = omega arith in
+    rw (lt-ltb a b l, e))
+
+pub value-rounds : (sc : Scale) (c : ℕ) → 0 < sc .span → valueOf sc c ≡ round binary32 (ltb c (sc .base)) (gap c (sc .base)) (sc .span)
+unfolding valueOf
+value-rounds sc c S = over-some (pos c -ℤ pos (sc .base)) (sc .span) S ∙ rounds c (sc .base) (sc .span)

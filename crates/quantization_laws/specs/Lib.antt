@@ -1,0 +1,4 @@
+pub mod Printed
+pub mod Nearest
+pub mod Pattern
+pub mod Marked

@@ -1,0 +1,11 @@
+//! A second program for the codec, written from the scope paper alone.
+//!
+//! It shares nothing with the library that it is compared with, and it prefers
+//! plainness to speed: every number is an exact fraction, every float is its
+//! 32 bits, and no float arithmetic is done anywhere.
+
+pub mod fixed;
+pub mod float;
+pub mod fraction;
+pub mod quantization;
+pub mod refusal;

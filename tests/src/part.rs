@@ -1,0 +1,24 @@
+//! A part of the tests.
+
+use crate::library::Library;
+use crate::quantization;
+use crate::tally::{Flow, Tally};
+
+pub struct Part {
+    pub name: &'static str,
+    pub run: fn(&Library, &mut Tally) -> Flow,
+}
+
+pub const fn part(name: &'static str, run: fn(&Library, &mut Tally) -> Flow) -> Part {
+    Part { name, run }
+}
+
+/// Every part that tries a library, subject after subject.
+pub fn library_parts() -> impl Iterator<Item = &'static Part> {
+    quantization::PARTS.iter()
+}
+
+/// Every part that needs no library.
+pub fn reference_parts() -> impl Iterator<Item = &'static Part> {
+    quantization::REFERENCE_PARTS.iter()
+}

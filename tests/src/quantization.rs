@@ -1,0 +1,126 @@
+//! Codes to floats and back: one comparison of each function with the
+//! reference, and the parts that choose what to compare.
+
+use reference::quantization::{self, Kind, Scale};
+use reference::refusal::Refusal;
+
+use crate::library::{Library, Setting, Slot, FLOAT};
+use crate::part::{part, Part};
+use crate::tally::{Flow, Tally};
+
+mod codes;
+mod examples;
+pub mod exhaustive;
+mod floats;
+mod reference_itself;
+mod refusals;
+
+/// The parts that try a library.
+pub const PARTS: &[Part] = &[
+    part("dequantize, every code", codes::every_code),
+    part("dequantize, then quantize back", codes::there_and_back),
+    part("quantize, rounding ties", floats::ties),
+    part("quantize, floats of codes", floats::of_codes),
+    part("quantize, every exponent", floats::every_exponent),
+    part("quantize, not-a-numbers", floats::not_a_numbers),
+    part("quantize, random floats", floats::random),
+    part("refusals, one input at a time", refusals::single),
+    part("refusals, inputs in pairs", refusals::pairs),
+    part("marked examples and traps", examples::marked),
+    part("published figures", examples::published),
+];
+
+/// The parts that need no library: the reference is compared with itself.
+pub const REFERENCE_PARTS: &[Part] = &[
+    part("reference, nearest floats", reference_itself::nearest),
+    part("reference, 64 against 128 bits", reference_itself::paths),
+];
+
+/// What the float holds before a call. It is a not-a-number, so no code's float.
+const UNTOUCHED: u32 = 0x7fa5_a5a5;
+const EMPTY_SLOT: Slot = [
+    0x5a5a_5a5a,
+    0xc3c3_c3c3,
+    UNTOUCHED,
+    0x3c3c_3c3c,
+    0xa5a5_a5a5,
+];
+
+/// The 36 settings that are not refused.
+fn settings() -> impl Iterator<Item = Setting> {
+    [1, 2].into_iter().flat_map(|model| {
+        [1, 2].into_iter().flat_map(move |range| {
+            [8, 10, 12].into_iter().flat_map(move |depth| {
+                [0, 1, 2]
+                    .into_iter()
+                    .map(move |channel| [model, range, depth, channel])
+            })
+        })
+    })
+}
+
+pub fn scale([model, range, depth, channel]: Setting) -> Result<Scale, Refusal> {
+    Scale::new(model, range, depth, channel)
+}
+
+/// The scale of a setting that is known to have one.
+fn scale_of(setting: Setting) -> Scale {
+    scale(setting).expect("a setting inside the paper")
+}
+
+/// A refusal as the C interface answers it.
+pub fn refused(refusal: Refusal) -> i64 {
+    -i64::from(refusal.number())
+}
+
+/// The reference's answer, with the slot as it must be afterwards.
+pub fn expected_dequantize(setting: Setting, code: u16, slot: &mut Slot) -> i64 {
+    let [model, range, depth, channel] = setting;
+    match quantization::dequantize(model, range, depth, channel, code) {
+        Ok((kind, bits)) => {
+            slot[FLOAT] = bits;
+            match kind {
+                Kind::Brightness => 0,
+                Kind::Difference => 1,
+            }
+        }
+        Err(refusal) => refused(refusal),
+    }
+}
+
+pub fn expected_quantize(setting: Setting, bits: u32) -> i64 {
+    let [model, range, depth, channel] = setting;
+    match quantization::quantize(model, range, depth, channel, bits) {
+        Ok(code) => i64::from(code),
+        Err(refusal) => refused(refusal),
+    }
+}
+
+fn compare_dequantize(library: &Library, tally: &mut Tally, setting: Setting, code: u16) -> Flow {
+    let mut slot = EMPTY_SLOT;
+    let answer = (library.dequantize)(setting, code, &mut slot);
+    let mut expected_slot = EMPTY_SLOT;
+    let expected = expected_dequantize(setting, code, &mut expected_slot);
+    tally.compare(answer == expected && slot == expected_slot, || {
+        format!(
+            "dequantize {}, code {code}: answer {answer} and memory {slot:08x?}, \
+             must be {expected} and {expected_slot:08x?}",
+            words(setting)
+        )
+    })
+}
+
+fn compare_quantize(library: &Library, tally: &mut Tally, setting: Setting, bits: u32) -> Flow {
+    let answer = (library.quantize)(setting, f32::from_bits(bits));
+    let expected = expected_quantize(setting, bits);
+    tally.compare(answer == expected, || {
+        format!(
+            "quantize {}, value 0x{bits:08x}: answer {answer}, must be {expected}",
+            words(setting)
+        )
+    })
+}
+
+fn words([model, range, depth, channel]: Setting) -> String {
+    format!("model {model}, range {range}, depth {depth}, channel {channel}")
+}

@@ -1,0 +1,82 @@
+//! All 2^32 floats of a scale, not-a-numbers too.
+
+use std::sync::atomic::{AtomicU32, Ordering};
+use std::thread;
+
+use reference::fixed;
+use reference::quantization::Scale;
+use reference::refusal::Refusal;
+
+use crate::library::{Library, Setting};
+use crate::tally::{Flow, Tally};
+
+use super::{expected_quantize, refused, scale_of, settings, words};
+
+/// The floats are handed to the threads in blocks that share their highest bits.
+const BLOCKS: u32 = 256;
+const BLOCK_BITS: u32 = 24;
+
+/// For one float in so many the reference's 64 bits are compared with its 128.
+const SAMPLE: u32 = 1021;
+
+/// Goes through the floats on all cores. The settings of the scale take turns.
+pub fn run(library: &Library, scale: Scale) -> Tally {
+    let settings: Vec<Setting> = settings()
+        .filter(|&setting| scale_of(setting) == scale)
+        .collect();
+    let next_block = AtomicU32::new(0);
+    let work = || {
+        let mut tally = Tally::default();
+        loop {
+            let block = next_block.fetch_add(1, Ordering::Relaxed);
+            if block >= BLOCKS {
+                return tally;
+            }
+            if block > 0 && block.is_multiple_of(64) {
+                eprintln!("  {} %", 100 * block / BLOCKS);
+            }
+            // This tally never stops early.
+            let _ = go_through(library, &mut tally, scale, &settings, block);
+        }
+    };
+    let workers = thread::available_parallelism().map_or(1, |number| number.get());
+    let mut total = Tally::default();
+    thread::scope(|scope| {
+        let threads: Vec<_> = (0..workers).map(|_| scope.spawn(work)).collect();
+        for thread in threads {
+            total.add(thread.join().expect("a thread that ends by itself"));
+        }
+    });
+    total
+}
+
+fn go_through(
+    library: &Library,
+    tally: &mut Tally,
+    scale: Scale,
+    settings: &[Setting],
+    block: u32,
+) -> Flow {
+    for low in 0..1 << BLOCK_BITS {
+        let bits = block << BLOCK_BITS | low;
+        let setting = settings[bits as usize % settings.len()];
+        let value = f32::from_bits(bits);
+        let expected = if value.is_nan() {
+            refused(Refusal::NotANumber)
+        } else {
+            i64::from(fixed::quantize(scale, bits))
+        };
+        let answer = (library.quantize)(setting, value);
+        let sampled = bits.is_multiple_of(SAMPLE);
+        let agreed = !sampled || expected == expected_quantize(setting, bits);
+        tally.compare(answer == expected && agreed, || {
+            let long = expected_quantize(setting, bits);
+            format!(
+                "quantize {}, value 0x{bits:08x}: answer {answer}, must be {expected}, \
+                 by the 128 bits {long}",
+                words(setting)
+            )
+        })?;
+    }
+    Flow::Continue(())
+}
