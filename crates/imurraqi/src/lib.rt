@@ -13,21 +13,31 @@ fn refused(number: u8) -> i64
     -(number as i64)
 }
 
+// A float in its place, with the answer that goes with it.
+fn stored(place: &mut f32, value: f32, answer: i64) -> i64
+    ensures answer { λ r. ⌜ r ≡ answer ⌝ }
+    ensures memory { λ _. ⌜ now (place .exit) ≡ value ⌝ }
+{
+    *place = value;
+    answer
+}
+
 // The float of a code. Answers 0 for a brightness, 1 for a difference.
 #[no_mangle]
-pub extern "C" fn imurraqi_dequantize(model: u8, range: u8, depth: u8, channel: u8, code: u16, value: &mut f32) -> i64
+pub extern "C" fn imurraqi_dequantize(
+    model: u8,
+    range: u8,
+    depth: u8,
+    channel: u8,
+    code: u16,
+    value: &mut f32,
+) -> i64
     ensures answer { λ r. ⌜ r ≡ dequantizedNumber (dequantized model range depth channel code) ⌝ }
     ensures memory { λ _. ⌜ now (value .exit) ≡ dequantizedValue (dequantized model range depth channel code) (now (value .entry)) ⌝ }
 {
     match quantization::dequantize(model, range, depth, channel, code) {
-        Dequantized::Brightness(v) => {
-            *value = v;
-            0
-        }
-        Dequantized::Difference(v) => {
-            *value = v;
-            1
-        }
+        Dequantized::Brightness(v) => stored(value, v, 0),
+        Dequantized::Difference(v) => stored(value, v, 1),
         Dequantized::Refused(number) => refused(number),
     }
 }

@@ -54,7 +54,7 @@ impl Scale {
                     rounding: Rounding::HalfAway,
                 },
                 Kind::Difference => Scale {
-                    base: 128 * s,
+                    base: (high + 1) / 2,
                     span: high,
                     low: 0,
                     high,

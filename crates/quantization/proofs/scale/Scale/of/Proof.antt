@@ -48,8 +48,8 @@ enum-told-5 c = search needs
 enum-told-6 : tie.Need-enum-told-6
 enum-told-6 c = search needs
 
-mul-t16 : tie.Need-mul-t16
-mul-t16 c = omega (arith, stepped (c .before .before .before .before .before .before))
+add-t16 : tie.Need-add-t16
+add-t16 c = omega (arith, stepped (c .before .before .before .before .before .before))
 
 returns : tie.Need-returns
 returns c = let d = c .before .before .before .before .before .before .args .depth in cc (by-step Narrow Brightness (bitsOf d) (depth-steps d))
@@ -79,7 +79,7 @@ of-spec =
     enum-told-4
     enum-told-5
     enum-told-6
-    mul-t16
+    add-t16
     returns
     returns-2
     returns-3
