@@ -1,7 +1,7 @@
 -- Integers as differences of two natural numbers, which `omega` reads: sums, differences and products by a natural number stay such a difference. Assumes nothing.
-use mathlib.Core.Path.{_≡_, refl, sym, ap, ap₂, _∙_, subst}
+use mathlib.Core.Path.{_≡_, sym, ap, ap₂, _∙_, subst}
 use Prim.Native.Nat.{ℕ, zero, suc, _+_, _-_, _*_, _≤_, _<_}
-use native.Mathlib.Nat.{mul-sub, mul-add, mul-assoc, mul-zero, mul-le-mul-left, le-of-lt}
+use native.Mathlib.Nat.{mul-sub, mul-add, mul-assoc, mul-le-mul-left, le-of-lt}
 use native.Mathlib.Omega.{arith}
 use mathlib.Core.Bool.{Bool, true, false, not, cond}
 use lib.Dec.{T, ltb, ltb→lt, nltb→le}

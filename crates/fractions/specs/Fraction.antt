@@ -62,7 +62,10 @@ halfUp x = floor (plusHalf x)
 abbrev pub halfAway : Fraction → ℤ
 halfAway x = sign (x .num) *ℤ floor (plusHalf (magnitude x))
 
--- the nearest number to z within low .. high
+-- the nearest number to n within low .. high, and to an integer
+abbrev pub bounded : ℕ → ℕ → ℕ → ℕ
+bounded low high n = max low (min n high)
+
 abbrev pub clamp : ℕ → ℕ → ℤ → ℕ
-clamp low high (pos n) = max low (min n high)
+clamp low high (pos n) = bounded low high n
 clamp low high (negsuc n) = low

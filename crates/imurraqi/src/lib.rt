@@ -2,7 +2,8 @@
 // the number of its refusal; on a refusal nothing behind a pointer changes.
 ghost use mathlib.Core.Path.{_≡_};
 ghost use lib.IntN.{pos, negℤ};
-ghost use Rattle.quantization.specs.Answer.{dequantized, dequantizedNumber, dequantizedValue, quantized, quantizedNumber};
+ghost use Rattle.quantization.specs.Answer.{dequantized, quantized};
+ghost use Rattle.imurraqi.specs.Numbers.{dequantizedNumber, dequantizedValue, quantizedNumber};
 use quantization::Dequantized;
 use quantization::Quantized;
 
@@ -13,31 +14,21 @@ fn refused(number: u8) -> i64
     -(number as i64)
 }
 
-// A float in its place, with the answer that goes with it.
-fn stored(place: &mut f32, value: f32, answer: i64) -> i64
-    ensures answer { λ r. ⌜ r ≡ answer ⌝ }
-    ensures memory { λ _. ⌜ now (place .exit) ≡ value ⌝ }
-{
-    *place = value;
-    answer
-}
-
 // The float of a code. Answers 0 for a brightness, 1 for a difference.
 #[no_mangle]
-pub extern "C" fn imurraqi_dequantize(
-    model: u8,
-    range: u8,
-    depth: u8,
-    channel: u8,
-    code: u16,
-    value: &mut f32,
-) -> i64
+pub extern "C" fn imurraqi_dequantize(model: u8, range: u8, depth: u8, channel: u8, code: u16, value: &mut f32) -> i64
     ensures answer { λ r. ⌜ r ≡ dequantizedNumber (dequantized model range depth channel code) ⌝ }
     ensures memory { λ _. ⌜ now (value .exit) ≡ dequantizedValue (dequantized model range depth channel code) (now (value .entry)) ⌝ }
 {
     match quantization::dequantize(model, range, depth, channel, code) {
-        Dequantized::Brightness(v) => stored(value, v, 0),
-        Dequantized::Difference(v) => stored(value, v, 1),
+        Dequantized::Brightness(brightness) => {
+            *value = brightness;
+            0
+        }
+        Dequantized::Difference(difference) => {
+            *value = difference;
+            1
+        }
         Dequantized::Refused(number) => refused(number),
     }
 }

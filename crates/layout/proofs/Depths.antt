@@ -1,8 +1,8 @@
--- What holds at every depth n, once over n from 8 to 12, by the step s = 2 ^ (n - 8). Assumes nothing.
+-- What holds of the paper's numbers of range and depth: of every depth n, once over n from 8 to 12, by the step s = 2 ^ (n - 8). Assumes nothing.
 use mathlib.Core.Path.{_≡_, refl, sym, ap, _∙_, subst}
-use mathlib.Core.Bool.{Bool, true, false, cond, _||_}
+use mathlib.Core.Bool.{true, _||_}
 use mathlib.Core.Logic.{inl, inr}
-use Prim.Native.Nat.{ℕ, _+_, _-_, _*_, _^_, _≤_, _<_}
+use Prim.Native.Nat.{ℕ, _+_, _-_, _*_, _^_, _≤_}
 use native.Mathlib.Omega.{arith}
 use borrow.Author.Tests.{eqb-true}
 use lib.Dec.{eqb, lit≤}
@@ -10,7 +10,7 @@ use lib.Pow.{pow-add, pow-pos, pow-mono}
 use Rattle.lists.proofs.Tests.{or-cases}
 use Rattle.layout.specs.declared.depth.Depth.{Depth}
 use Rattle.layout.specs.declared.depth.Depth.the-variants.{Eight, Ten, Twelve}
-use Rattle.layout.specs.Layout.{depthKnown, depthOf, bitsOf, stepOf, topOf}
+use Rattle.layout.specs.Layout.{rangeKnown, rangeOf, rangeNumber, depthKnown, depthOf, bitsOf, stepOf}
 
 -- k bits above those of the step
 above : (k n m : ℕ) → m ≡ k + (n - 8) → 2 ^ m ≡ 2 ^ k * stepOf n
@@ -55,5 +55,12 @@ known-bits n e = elim (or-cases (eqb n 8 || eqb n 10) (eqb n 12) e) [
     at : (n k : ℕ) → bitsOf (depthOf k) ≡ k → n ≡ k → bitsOf (depthOf n) ≡ n
     at n k h q = subst (λ (x : ℕ). bitsOf (depthOf x) ≡ x) (sym q) h
 
-pub known-range : (n : ℕ) → depthKnown n ≡ true → (8 ≤ n) × (n ≤ 12)
-known-range n e = let q = known-bits n e in omega (arith, bits-least (depthOf n), bits-most (depthOf n))
+pub known-between : (n : ℕ) → depthKnown n ≡ true → (8 ≤ n) × (n ≤ 12)
+known-between n e = let q = known-bits n e in omega (arith, bits-least (depthOf n), bits-most (depthOf n))
+
+-- a known range is that of its number
+pub range-number : (r : ℕ) → rangeKnown r ≡ true → rangeNumber (rangeOf r) ≡ r
+range-number r e = elim (or-cases (eqb r 1) (eqb r 2) e) [ inl q ↦ at r 1 refl (eqb-true r 1 q) | inr q ↦ at r 2 refl (eqb-true r 2 q) ]
+  where
+    at : (r k : ℕ) → rangeNumber (rangeOf k) ≡ k → r ≡ k → rangeNumber (rangeOf r) ≡ r
+    at r k h q = subst (λ (x : ℕ). rangeNumber (rangeOf x) ≡ x) (sym q) h

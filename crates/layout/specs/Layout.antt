@@ -28,16 +28,24 @@ channelKnown channel = ltb channel 3
 abbrev pub rangeKnown : ℕ → Bool
 rangeKnown range = eqb range 1 || eqb range 2
 
+-- the range of a number that is known (any other is taken for full)
 abbrev pub rangeOf : ℕ → Range
 rangeOf range = cond (eqb range 1) Narrow Full
+
+-- and its number
+abbrev pub rangeNumber : Range → ℕ
+rangeNumber Narrow = 1
+rangeNumber Full = 2
 
 -- a depth n of 8, 10 or 12
 abbrev pub depthKnown : ℕ → Bool
 depthKnown n = eqb n 8 || eqb n 10 || eqb n 12
 
+-- the depth of a number that is known (any other is taken for 12)
 abbrev pub depthOf : ℕ → Depth
 depthOf n = cond (eqb n 8) Eight (cond (eqb n 10) Ten Twelve)
 
+-- and its number
 abbrev pub bitsOf : Depth → ℕ
 bitsOf Eight = 8
 bitsOf Ten = 10
@@ -52,7 +60,7 @@ topOf n = 2 ^ n - 1
 
 -- channels 1 and 2 of Y'CbCr, Cb and Cr, are differences, and all others brightness
 abbrev pub kindOf : ℕ → ℕ → Kind
-kindOf model channel = cond (eqb model 2 && leb 1 channel) Difference Brightness
+kindOf model channel = cond (eqb model 2 && (eqb channel 1 || eqb channel 2)) Difference Brightness
 
 -- ---- a valid layout
 
@@ -68,6 +76,7 @@ inside offset n bytes = leb (offset + n) (8 * bytes)
 abbrev pub apart : ℕ → ℕ → ℕ → Bool
 apart a b n = leb (a + n) b || leb (b + n) a
 
+-- the paper has this layout
 unfoldable pub validLayout : Layout → Bool
 validLayout l =
     modelKnown (l .model)

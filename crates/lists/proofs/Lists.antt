@@ -1,7 +1,7 @@
 -- Laws of `tabulate` and `written`. d is the value that `getD` gives past a list's end. Assumes nothing.
 use mathlib.Core.Path.{_≡_, refl, sym, ap, ap₂, _∙_, subst}
 use mathlib.Core.Logic.{⊎-elim}
-use mathlib.Core.List.{List, [], _∷_}
+use mathlib.Core.List.{List}
 use Prim.Native.Nat.{ℕ, zero, suc, _+_, _≤_, _<_}
 use native.Mathlib.Nat.{not-suc-le-zero, le-of-suc-le-suc, add-zero, add-suc, add-assoc, eq-or-lt-of-le}
 use native.Mathlib.Numerals.{add-one}

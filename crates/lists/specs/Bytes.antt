@@ -13,5 +13,5 @@ byteOf v j = v / 256 ^ j % 256
 
 -- the lowest k bytes of the number v
 unfoldable pub bytesOf : ℕ → ℕ → List ℕ
-bytesOf zero v = []
-bytesOf (suc k) v = v % 256 ∷ bytesOf k (v / 256)
+bytesOf v zero = []
+bytesOf v (suc k) = v % 256 ∷ bytesOf (v / 256) k

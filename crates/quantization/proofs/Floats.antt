@@ -1,8 +1,8 @@
 -- A test for a NaN, and the bit pattern of a float that is none. Assumes nothing.
 use mathlib.Core.Path.{_≡_, sym, _∙_, subst}
-use mathlib.Core.Bool.{Bool, true, false, not, true≢false}
+use mathlib.Core.Bool.{true, false, not, true≢false}
 use lib.Dec.{T}
-use lib.Ieee.{Float, nan, inf, fin, Format, fits, isNan, ne, ofBits, toBits, nanBits}
+use lib.Ieee.{Float, nan, inf, fin, Format, fits, isNan, ne, toBits, nanBits}
 use lib.Ieee.Bits.{ofBits-toBits, nanBits-is}
 use lib.Ieee.Compare.{differs-from-itself, nan-differs}
 

@@ -4,3 +4,4 @@ pub mod Fields
 mod Floats
 pub mod Quotients
 pub mod Scales
+mod Sums

@@ -1,15 +1,15 @@
 // One channel's code and its value, both ways, by the paper's numbers (document 01, "Codes and floats").
 ghost use mathlib.Core.Path.{_≡_};
-ghost use Rattle.quantization.specs.Answer.{known, named, coded, dequantized, quantized};
+ghost use Rattle.quantization.specs.Answer.{channelKnownAt, named, dequantized, quantized};
 use layout::Depth;
 use layout::Kind;
 use layout::Range;
 use layout::refusal;
 
-mod nearest;
+mod code;
 mod scale;
 
-pub use nearest::Coded;
+pub use code::Coded;
 pub use scale::Rounding;
 pub use scale::Scale;
 
@@ -27,8 +27,8 @@ pub enum Quantized {
 }
 
 // Whether the paper has this channel, at this range and depth.
-fn is_known(model: u8, range: u8, depth: u8, channel: u8) -> bool
-    ensures { λ r. ⌜ r ≡ known model range depth channel ⌝ }
+fn known(model: u8, range: u8, depth: u8, channel: u8) -> bool
+    ensures { λ r. ⌜ r ≡ channelKnownAt model range depth channel ⌝ }
 {
     layout::model_known(model)
         & Range::known(range)
@@ -50,27 +50,27 @@ fn name(kind: Kind, value: f32) -> Dequantized
 pub fn dequantize(model: u8, range: u8, depth: u8, channel: u8, code: u16) -> Dequantized
     ensures { λ r. ⌜ r ≡ dequantized model range depth channel code ⌝ }
 {
-    if !is_known(model, range, depth, channel) {
+    if !known(model, range, depth, channel) {
         return Dequantized::Refused(refusal::OUTSIDE);
     }
-    let bits = Depth::of(depth);
-    if bits.top() < code {
+    if Depth::of(depth).top() < code {
         return Dequantized::Refused(refusal::CODE_TOO_HIGH);
     }
-    let kind = Kind::of(model, channel);
-    name(kind, Scale::of(Range::of(range), bits, kind).value(code))
+    name(
+        Kind::of(model, channel),
+        Scale::of_channel(model, range, depth, channel).value(code),
+    )
 }
 
 // The code of a float, worked out from its exact value. Refused: 9, then 12.
 pub fn quantize(model: u8, range: u8, depth: u8, channel: u8, value: f32) -> Quantized
     ensures { λ r. ⌜ r ≡ quantized model range depth channel value ⌝ }
 {
-    if !is_known(model, range, depth, channel) {
+    if !known(model, range, depth, channel) {
         return Quantized::Refused(refusal::OUTSIDE);
     }
-    let kind = Kind::of(model, channel);
-    match Scale::of(Range::of(range), Depth::of(depth), kind).code(value) {
-        Coded::At(code) => Quantized::Code(code),
+    match Scale::of_channel(model, range, depth, channel).code(value) {
+        Coded::Code(code) => Quantized::Code(code),
         Coded::NotANumber => Quantized::Refused(refusal::NOT_A_NUMBER),
     }
 }

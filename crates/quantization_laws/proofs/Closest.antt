@@ -1,20 +1,20 @@
 -- In natural numbers: d / p, rounded, is nearer to d / p than any other number of units that the format holds. Assumes nothing.
-use mathlib.Core.Path.{_≡_, refl, sym, ap, ap₂, _∙_, subst}
+use mathlib.Core.Path.{_≡_, refl, sym, ap, _∙_}
 use mathlib.Core.Logic.{_⊎_, inl, inr, ⊎-elim}
-use Prim.Native.Nat.{ℕ, zero, suc, _+_, _-_, _*_, _/_, _%_, _^_, _≤_, _<_}
-use native.Mathlib.Nat.{add-mul, suc-mul, mul-assoc, mul-comm, mul-left-comm, mul-right-comm, mul-one, one-mul, mul-zero, zero-mul, mul-pos, mul-sub, mul-le-mul-left, mul-le-mul-right, mul-lt-mul-of-pos-right, mul-lt-mul-of-pos-left, eq-of-mul-eq-mul-right, lt-of-not-le, not-le-of-lt, le-trans, le-of-eq, lt-of-lt-of-le, pow-succ'}
+use Prim.Native.Nat.{ℕ, zero, suc, _+_, _-_, _*_, _%_, _^_, _≤_, _<_}
+use native.Mathlib.Nat.{suc-mul, mul-assoc, mul-left-comm, mul-one, mul-zero, zero-mul, mul-pos, mul-le-mul-right, mul-lt-mul-of-pos-right, mul-lt-mul-of-pos-left, lt-of-not-le, not-le-of-lt, le-trans, le-of-eq, lt-of-lt-of-le}
 use native.Mathlib.Decide.{decLe}
 use native.Mathlib.Omega.{arith}
-use mathlib.Core.Bool.{Bool, true, false, not, _&&_}
-use lib.Dec.{T, ltb, leb, eqb, ltb→lt, leb→le, lit≤}
+use mathlib.Core.Bool.{Bool, _&&_}
+use lib.Dec.{T, ltb, leb, eqb, ltb→lt, leb→le}
 use lib.Pow.{pow-add, pow-pos, pow-mono, pow-lt}
-use lib.IntN.{ℤ, pos, negsuc, negℤ, natAbs, _+ℤ_, _-ℤ_, _*ℤ_}
-use lib.Ieee.{Float, nan, inf, fin, binary32, prec, emax, low, up, down, round, fits}
-use lib.Ieee.Fits.{and-l, and-r, down-pos}
-use lib.Ieee.Exact.{HasValue}
+use lib.IntN.{ℤ, pos, negsuc}
+use lib.Ieee.{fin, binary32, up, down, fits}
+use lib.Ieee.Fits.{and-l, and-r}
 use lib.Ieee.Order.{drop, kept}
 use lib.Ieee.Scale.{grid}
-use Rattle.quantization_laws.proofs.Units.{Near, U, unit, unit-pos, reaches, drops, grid-is, kept-near, kept-ge, not-below, not-above}
+use Rattle.quantization.proofs.Fields.{U}
+use Rattle.quantization_laws.proofs.Units.{Near, unit, unit-pos, reaches, drops, grid-is, kept-near, kept-ge, not-below, not-above}
 use Rattle.quantization_laws.proofs.Values.{gap}
 
 -- ---- a value that the format holds is w * 2 ^ j units, with w of 24 digits

@@ -1,9 +1,8 @@
+pub mod Claims
 pub mod Printed
-pub mod Units
-mod Values
 pub mod Pattern
 pub mod Return
-mod Closest
 pub mod Nearest
-pub mod Entries
-pub mod Marked
+mod Closest
+mod Units
+mod Values

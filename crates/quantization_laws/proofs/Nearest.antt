@@ -13,6 +13,7 @@ use lib.Ieee.{Float, nan, inf, fin, binary32, up, down, round, fits}
 use lib.Ieee.Fits.{round-fits, down-pos}
 use lib.Ieee.Exact.{HasValue}
 use lib.Ieee.Scale.{grid, round-same}
+use Rattle.lists.proofs.Numbers.{sub-mul}
 use Rattle.fractions.specs.Fraction.{Fraction, _over_, Same}
 use Rattle.fractions.proofs.Integers.{minus-cases, as-pos, as-neg, minus}
 use Rattle.layout.specs.declared.range.Range.{Range}
@@ -25,7 +26,8 @@ use Rattle.quantization.specs.Value.{fractionOf, valueOf}
 use Rattle.quantization.specs.Code.{signed, exact}
 use Rattle.quantization.proofs.Codes.{Small}
 use Rattle.quantization_laws.specs.Nearest.{distance, Nearer, NearestTo}
-use Rattle.quantization_laws.proofs.Units.{U, round-value}
+use Rattle.quantization.proofs.Fields.{U}
+use Rattle.quantization_laws.proofs.Units.{round-value}
 use Rattle.quantization_laws.proofs.Values.{gap, by-sign, value-rounds}
 use Rattle.quantization_laws.proofs.Closest.{Held, held, Beats, beats, Faces, faces}
 use Rattle.quantization_laws.proofs.Return.{Paper, paper}
@@ -74,9 +76,6 @@ other-sign true false a b d p n = distance-is true false a b d p ∙ omega arith
 other-sign true true a b d p n = absurd (n refl)
 
 -- ---- from units to fractions: a / b is g units
-sub-mul : (x y k : ℕ) → (x - y) * k ≡ x * k - y * k
-sub-mul x y k = mul-comm (x - y) k ∙ mul-sub k x y ∙ ap₂ (λ (u v : ℕ). u - v) (mul-comm k x) (mul-comm k y)
-
 gap-mul : (x y k : ℕ) → gap x y * k ≡ gap (x * k) (y * k)
 gap-mul x y k = add-mul (x - y) (y - x) k ∙ ap₂ (λ (u v : ℕ). u + v) (sub-mul x y k) (sub-mul y x k)
 

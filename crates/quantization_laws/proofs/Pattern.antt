@@ -8,19 +8,19 @@ use lib.Pow.{pow-pos}
 use lib.Ieee.{Float, binary32, odd, ofFields, ofBits}
 use lib.Ieee.Exact.{odd-sign}
 use Rattle.quantization.specs.declared.scale.Scale.{Scale}
-use Rattle.quantization.specs.declared.nearest.Coded.{Coded}
-use Rattle.quantization.specs.declared.nearest.Coded.the-variants.{At}
-use Rattle.quantization.specs.Code.{signed, codeNear, codeOf}
+use Rattle.quantization.specs.declared.code.Coded.{Coded}
+use Rattle.quantization.specs.declared.code.Coded.the-variants.{Code}
+use Rattle.quantization.specs.Code.{signed, codeOfValue, codeOf}
 use Rattle.quantization.specs.Whole.{wholeCode}
-use Rattle.quantization.proofs.Codes.{code-near, code-of-value, whole-same}
+use Rattle.quantization.proofs.Codes.{code-of-fraction, code-of-value, whole-same}
 use Rattle.quantization.proofs.Fields.{finite}
 use Rattle.quantization_laws.specs.Pattern.{signBit, fieldOf, digitsOf, byField, patternValue}
 
-by-field : (sc : Scale) (s : Bool) (x t : ℕ) → x < 255 → codeOf sc (ofFields binary32 s x t) ≡ At (codeNear sc (byField s x t))
+by-field : (sc : Scale) (s : Bool) (x t : ℕ) → x < 255 → codeOf sc (ofFields binary32 s x t) ≡ Code (codeOfValue sc (byField s x t))
 unfolding ofFields
 by-field sc s zero t h =
     code-of-value sc (odd 24 s t 0 149) s (t * 2 ^ 0) (2 ^ 149) (pow-pos 149) (odd-sign 24 s t 0 149)
-    ∙ ap At (ap (λ (a : ℕ). wholeCode sc s a (2 ^ 149)) (mul-one t) ∙ sym (code-near sc s t (2 ^ 149) (pow-pos 149)))
+    ∙ ap Code (ap (λ (a : ℕ). wholeCode sc s a (2 ^ 149)) (mul-one t) ∙ sym (code-of-fraction sc s t (2 ^ 149) (pow-pos 149)))
 by-field sc s (suc x) t h =
     let q = 2 ^ 23 + t in
     let a = q * 2 ^ x in
@@ -28,12 +28,12 @@ by-field sc s (suc x) t h =
     let e : a * 2 ^ 150 ≡ b * 2 ^ 149 = sym (twice q (2 ^ x) (2 ^ 149)) ∙ ap (λ (z : ℕ). q * z * 2 ^ 149) (sym (pow-succ' 2 x)) in
     ap (codeOf sc) (finite s t x h)
     ∙ code-of-value sc (odd 24 s q x 149) s a (2 ^ 149) (pow-pos 149) (odd-sign 24 s q x 149)
-    ∙ ap At (whole-same sc s a (2 ^ 149) b (2 ^ 150) (pow-pos 149) (pow-pos 150) e ∙ sym (code-near sc s b (2 ^ 150) (pow-pos 150)))
+    ∙ ap Code (whole-same sc s a (2 ^ 149) b (2 ^ 150) (pow-pos 149) (pow-pos 150) e ∙ sym (code-of-fraction sc s b (2 ^ 150) (pow-pos 150)))
   where
     twice : (q y u : ℕ) → q * (2 * y) * u ≡ q * y * (2 * u)
     twice q y u = ap (λ (z : ℕ). z * u) (mul-left-comm q 2 y) ∙ mul-assoc 2 (q * y) u ∙ mul-left-comm 2 (q * y) u
 
 -- every pattern but those of infinities and NaNs
-pub pattern-code : (sc : Scale) (bits : ℕ) → fieldOf bits < 255 → codeOf sc (ofBits binary32 bits) ≡ At (codeNear sc (patternValue bits))
+pub pattern-code : (sc : Scale) (bits : ℕ) → fieldOf bits < 255 → codeOf sc (ofBits binary32 bits) ≡ Code (codeOfValue sc (patternValue bits))
 unfolding ofBits patternValue
 pattern-code sc bits h = by-field sc (signBit bits) (fieldOf bits) (digitsOf bits) h

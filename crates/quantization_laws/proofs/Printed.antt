@@ -13,8 +13,8 @@ use Rattle.layout.specs.declared.kind.Kind.the-variants.{Brightness, Difference
 use Rattle.layout.specs.Layout.{stepOf, topOf}
 use Rattle.quantization.specs.Scale.{scaleOf}
 use Rattle.quantization.specs.Value.{fractionOf}
-use Rattle.quantization.specs.Code.{numberOf}
-use Rattle.quantization_laws.specs.Printed.{printedValue, printedNumber}
+use Rattle.quantization.specs.Code.{unclamped}
+use Rattle.quantization_laws.specs.Printed.{printedValue, printedUnclamped}
 
 -- s (a v + b) = (a s) v + b s
 spread : (s a b : ℕ) (v : Fraction) → s · (a · v ⊕ b) ≡ (a * s) · v ⊕ (b * s)
@@ -36,9 +36,9 @@ value-printed Narrow Difference n c = refl
 value-printed Full Brightness n c = ap (λ (z : ℤ). z over topOf n) (+ℤ-idr (pos c))
 value-printed Full Difference n c = refl
 
-pub number-printed : (r : Range) (k : Kind) (n : ℕ) (v : Fraction) → numberOf (scaleOf r n k) v ≡ printedNumber r k n v
-unfolding scaleOf printedNumber
-number-printed Narrow Brightness n v = ap halfUp (sym (spread (stepOf n) 219 16 v))
-number-printed Narrow Difference n v = ap halfUp (sym (spread (stepOf n) 224 128 v))
-number-printed Full Brightness n v = ap halfAway (no-base (topOf n · v))
-number-printed Full Difference n v = refl
+pub unclamped-printed : (r : Range) (k : Kind) (n : ℕ) (v : Fraction) → unclamped (scaleOf r n k) v ≡ printedUnclamped r k n v
+unfolding scaleOf printedUnclamped
+unclamped-printed Narrow Brightness n v = ap halfUp (sym (spread (stepOf n) 219 16 v))
+unclamped-printed Narrow Difference n v = ap halfUp (sym (spread (stepOf n) 224 128 v))
+unclamped-printed Full Brightness n v = ap halfAway (no-base (topOf n · v))
+unclamped-printed Full Difference n v = refl

@@ -15,17 +15,19 @@ use Rattle.layout.specs.declared.range.Range.the-variants.{Narrow, Full}
 use Rattle.layout.specs.declared.kind.Kind.{Kind}
 use Rattle.layout.specs.declared.kind.Kind.the-variants.{Brightness, Difference}
 use Rattle.layout.specs.Layout.{modelKnown, rangeKnown, rangeOf, depthKnown, stepOf, topOf, channelKnown, kindOf}
-use Rattle.layout.proofs.Depths.{Steps, steps, known-range}
+use Rattle.layout.proofs.Depths.{Steps, steps, known-between}
+use Rattle.fractions.specs.Fraction.{bounded}
 use Rattle.quantization.specs.declared.scale.Scale.{Scale}
-use Rattle.quantization.specs.declared.nearest.Coded.{Coded}
-use Rattle.quantization.specs.declared.nearest.Coded.the-variants.{At}
+use Rattle.quantization.specs.declared.code.Coded.{Coded}
+use Rattle.quantization.specs.declared.code.Coded.the-variants.{Code}
 use Rattle.quantization.specs.Scale.{scaleOf}
 use Rattle.quantization.specs.Value.{valueOf}
 use Rattle.quantization.specs.Code.{codeOf}
-use Rattle.quantization.specs.Whole.{bounded, moved, wholeCode}
+use Rattle.quantization.specs.Whole.{moved, wholeCode}
 use Rattle.quantization.proofs.Codes.{Small, code-of-value, quotient-is}
 use Rattle.quantization.proofs.Scales.{scaleBy, by-step}
-use Rattle.quantization_laws.proofs.Units.{Near, U, unit, unit-lt, kept-near, grid-is, round-value}
+use Rattle.quantization.proofs.Fields.{U}
+use Rattle.quantization_laws.proofs.Units.{Near, unit, unit-lt, kept-near, grid-is, round-value}
 use Rattle.quantization_laws.proofs.Values.{gap, value-rounds}
 
 -- within half a code of c
@@ -46,8 +48,8 @@ lands sc c g u b B n = ap (bounded (sc .low) (sc .high)) (go (ltb c (sc .base)) 
         quotient-is c (2 * (sc .base * u) + u + 2 * (sc .span * g)) u (omega arith) (omega arith)
 
 -- at any scale: the code, clamped
-pub back : (sc : Scale) → Small sc → 0 < sc .span → (c : ℕ) → c < 2 ^ 16 → codeOf sc (valueOf sc c) ≡ At (bounded (sc .low) (sc .high) c)
-back sc k S c h =
+pub code-returns-clamped : (sc : Scale) → Small sc → 0 < sc .span → (c : ℕ) → c < 2 ^ 16 → codeOf sc (valueOf sc c) ≡ Code (bounded (sc .low) (sc .high) c)
+code-returns-clamped sc k S c h =
     let s = ltb c (sc .base) in
     let d = gap c (sc .base) in
     let p = sc .span in
@@ -55,7 +57,7 @@ back sc k S c h =
     let g = grid binary32 d p in
     ap (codeOf sc) (value-rounds sc c S)
     ∙ code-of-value sc _ s g U (pow-pos 149) (round-value d p S (k .span) D s)
-    ∙ ap At (lands sc c g U (unit d p) (unit-lt d p S (k .span) D) (subst (λ (x : ℕ). Near x (d * U) (unit d p)) (sym (grid-is d p S (k .span) D)) (kept-near d p S (k .span) D)))
+    ∙ ap Code (lands sc c g U (unit d p) (unit-lt d p S (k .span) D) (subst (λ (x : ℕ). Near x (d * U) (unit d p)) (sym (grid-is d p S (k .span) D)) (kept-near d p S (k .span) D)))
 
 -- ---- the paper's scales, once over n
 pub record Paper (n : ℕ) (sc : Scale) : Type 0 where
@@ -74,9 +76,9 @@ pub paper : (r : Range) (k : Kind) (n : ℕ) → 8 ≤ n → n ≤ 12 → Paper 
 paper r k n lo hi = let h = steps n lo hi in subst (Paper n) (by-step r k n h) (by-steps r k n h)
 
 -- every code of every range, kind and depth comes back
-pub code-returns : (r : Range) (k : Kind) (n c : ℕ) → 8 ≤ n → n ≤ 12 → c ≤ topOf n → codeOf (scaleOf r n k) (valueOf (scaleOf r n k) c) ≡ At c
+pub code-returns : (r : Range) (k : Kind) (n c : ℕ) → 8 ≤ n → n ≤ 12 → c ≤ topOf n → codeOf (scaleOf r n k) (valueOf (scaleOf r n k) c) ≡ Code c
 code-returns r k n c lo hi h =
     let sc = scaleOf r n k in
     let q = paper r k n lo hi in
     let t = steps n lo hi in
-    back sc (q .small) (q .some) c (omega arith) ∙ ap At (omega arith)
+    code-returns-clamped sc (q .small) (q .some) c (omega arith) ∙ ap Code (omega arith)

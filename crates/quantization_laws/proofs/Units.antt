@@ -14,6 +14,7 @@ use lib.Ieee.Exact.{HasValue, units-val}
 use lib.Ieee.Nearest.{closest, nearest-ge}
 use lib.Ieee.Order.{drop, kept}
 use lib.Ieee.Scale.{grid, overflow}
+use Rattle.quantization.proofs.Fields.{U}
 
 -- ---- a fraction a / b to the nearest whole number: x, in units of 1 / b, is within a half of a
 unfoldable pub Near : ℕ → ℕ → ℕ → Type 0
@@ -63,9 +64,6 @@ above-half k b d u e =
     omega (arith, mul-left-comm d 2 u)
 
 -- ---- d / p, for d and p below 2 ^ 16
-abbrev pub U : ℕ
-U = 2 ^ 149
-
 -- what it rounds to a multiple of, times p
 abbrev pub unit : ℕ → ℕ → ℕ
 unit d p = p * 2 ^ drop 24 (d * U) p

@@ -1,3 +1,4 @@
+pub mod Claims
 pub mod Printed
 pub mod Nearest
 pub mod Pattern

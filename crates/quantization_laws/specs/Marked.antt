@@ -1,39 +1,50 @@
--- Document 01, "Marked examples", M1 to M10: a range, a depth, a kind, a value as a sign and a fraction, and its code. Assumes nothing.
+-- Document 01, "Marked examples", M1 to M10. Assumes nothing.
 use Prim.Native.Nat.{ℕ, _-_, _^_}
-use mathlib.Core.Bool.{Bool, true, false}
+use mathlib.Core.Bool.{true, false}
 use mathlib.Core.List.{List, [], _∷_}
-use lib.Ieee.{Float, binary32, round}
+use lib.IntN.{pos, negsuc}
+use lib.Ieee.{Float, fin}
 use Rattle.layout.specs.declared.range.Range.{Range}
 use Rattle.layout.specs.declared.range.Range.the-variants.{Narrow, Full}
 use Rattle.layout.specs.declared.kind.Kind.{Kind}
 use Rattle.layout.specs.declared.kind.Kind.the-variants.{Brightness, Difference}
-use Rattle.quantization.specs.declared.nearest.Coded.{Coded}
-use Rattle.quantization.specs.declared.nearest.Coded.the-variants.{At}
+use Rattle.quantization.specs.declared.code.Coded.{Coded}
+use Rattle.quantization.specs.declared.code.Coded.the-variants.{Code}
 use Rattle.quantization.specs.Scale.{scaleOf}
 use Rattle.quantization.specs.Code.{codeOf}
 
--- the f32 ±a / b at a range, a depth and a kind, and its code
+-- a range, a depth, a kind, a float and its code. A float is `fin minus m e`, ±m * 2 ^ e; `negsuc k` is -(k + 1).
 pub data Example : Type 0 where
-  example : Range → ℕ → Kind → Bool → ℕ → ℕ → ℕ → Example
+  example : Range → ℕ → Kind → Float → ℕ → Example
 
 unfoldable pub marked : List Example
 marked =
-    example Narrow 8 Brightness false 1 1 235
-    ∷ example Narrow 8 Difference true 1 2 16
-    ∷ example Narrow 8 Difference false 1 2 240
-    ∷ example Full 8 Difference false 1 2 255
-    ∷ example Full 8 Difference true 1 2 1
-    ∷ example Full 8 Brightness true 1 4 0
-    ∷ example Narrow 10 Brightness false 1 8 174
-    ∷ example Narrow 10 Brightness false (2 ^ 24 - 1) (2 ^ 27) 173
-    ∷ example Full 12 Difference false 0 1 2048
-    ∷ example Narrow 8 Brightness false 1 2 126
+    -- M1: 1.0
+    example Narrow 8 Brightness (fin false 1 (pos 0)) 235
+    -- M2: -0.5
+    ∷ example Narrow 8 Difference (fin true 1 (negsuc 0)) 16
+    -- M3: 0.5
+    ∷ example Narrow 8 Difference (fin false 1 (negsuc 0)) 240
+    -- M4: 0.5 (256, clamped)
+    ∷ example Full 8 Difference (fin false 1 (negsuc 0)) 255
+    -- M5: -0.5
+    ∷ example Full 8 Difference (fin true 1 (negsuc 0)) 1
+    -- M6: -0.25
+    ∷ example Full 8 Brightness (fin true 1 (negsuc 1)) 0
+    -- M7: 1/8
+    ∷ example Narrow 10 Brightness (fin false 1 (negsuc 2)) 174
+    -- M8: 1/8 - 2^-27
+    ∷ example Narrow 10 Brightness (fin false (2 ^ 24 - 1) (negsuc 26)) 173
+    -- M9: 0
+    ∷ example Full 12 Difference (fin false 0 (pos 0)) 2048
+    -- M10: 0.5
+    ∷ example Narrow 8 Brightness (fin false 1 (negsuc 0)) 126
     ∷ []
 
--- what the definitions give, and what the paper prints
+-- what the definitions give, and what the paper states
 unfoldable pub given : Example → Coded
-unfolding scaleOf codeOf round
-given (example r n k minus a b code) = codeOf (scaleOf r n k) (round binary32 minus a b)
+unfolding scaleOf codeOf
+given (example r n k v code) = codeOf (scaleOf r n k) v
 
-unfoldable pub printed : Example → Coded
-printed (example r n k minus a b code) = At code
+unfoldable pub stated : Example → Coded
+stated (example r n k v code) = Code code

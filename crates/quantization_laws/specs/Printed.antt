@@ -24,8 +24,8 @@ printedValue Full Difference n c = let m = topOf n in pos c -ℤ pos (2 ^ (n - 1
 --   narrow, Cb and Cr   floor(1/2 + (224v + 128)s)
 --   full, RGB and Y'    Round(vm)
 --   full, Cb and Cr     Round(vm + 2^(n-1))
-unfoldable pub printedNumber : Range → Kind → ℕ → Fraction → ℤ
-printedNumber Narrow Brightness n v = let s = stepOf n in floor (plusHalf (s · (219 · v ⊕ 16)))
-printedNumber Narrow Difference n v = let s = stepOf n in floor (plusHalf (s · (224 · v ⊕ 128)))
-printedNumber Full Brightness n v = let m = topOf n in halfAway (m · v)
-printedNumber Full Difference n v = let m = topOf n in halfAway (m · v ⊕ 2 ^ (n - 1))
+unfoldable pub printedUnclamped : Range → Kind → ℕ → Fraction → ℤ
+printedUnclamped Narrow Brightness n v = let s = stepOf n in floor (plusHalf (s · (219 · v ⊕ 16)))
+printedUnclamped Narrow Difference n v = let s = stepOf n in floor (plusHalf (s · (224 · v ⊕ 128)))
+printedUnclamped Full Brightness n v = let m = topOf n in halfAway (m · v)
+printedUnclamped Full Difference n v = let m = topOf n in halfAway (m · v ⊕ 2 ^ (n - 1))

@@ -16,14 +16,15 @@ returns : tie.Need-returns
 unfolding codeOf
 returns c = rw (is-nan (c .before .args .value) (c .if1 .taken))
 
-float-to-bits-code-of-bits : tie.Need-float-to-bits-code-of-bits
-float-to-bits-code-of-bits c = no-nan (c .before .args .value) (c .if1 .left)
+float-to-bits-code-of-pattern : tie.Need-float-to-bits-code-of-pattern
+float-to-bits-code-of-pattern c = no-nan (c .before .args .value) (c .if1 .left)
 
-code-of-bits-requires : tie.Need-code-of-bits-requires
-code-of-bits-requires c κs = no-nan-bits binary32 (c .before .args .value) (held (c .before)) (c .if1 .left)
+code-of-pattern-requires : tie.Need-code-of-pattern-requires
+code-of-pattern-requires c κs = no-nan-bits binary32 (c .before .args .value) (held (c .before)) (c .if1 .left)
 
 returns-2 : tie.Need-returns-2
-returns-2 c = rw (← (ofBits-toBits binary32 (c .before .before .args .value) (held (c .before .before)))) (sym (c .code-of-bits .ensures))
+returns-2 c = rw (← (ofBits-toBits binary32 (c .before .before .args .value) (held (c .before .before)))) (sym (c .code-of-pattern .ensures))
 
 pub code-spec : {M : Type 1} → statement M
-code-spec = tie.close (tie.spec returns float-to-bits-code-of-bits code-of-bits-requires returns-2)
+code-spec =
+    tie.close (tie.spec returns float-to-bits-code-of-pattern code-of-pattern-requires returns-2)

@@ -1,8 +1,8 @@
--- `layout::valid` meets its contract: its tests are the definition's, one by one. Assumes nothing.
+-- `layout::Layout::valid` meets its contract: its tests are the definition's, one by one. Assumes nothing.
 use Rattle.layout.specs.Layout.{validLayout}
 use borrow.Author.Needs.{needs}
-use Rattle.layout.proofs.valid.Statement.{statement}
-use Rattle.layout.proofs.valid.Tie as tie
+use Rattle.layout.proofs.Layout.valid.Statement.{statement}
+use Rattle.layout.proofs.Layout.valid.Tie as tie
 
 model-known-requires : tie.Need-model-known-requires
 model-known-requires c κs = search needs

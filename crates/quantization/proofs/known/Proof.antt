@@ -1,7 +1,7 @@
--- `quantization::is_known` meets its contract: its tests are the definition's. Assumes nothing.
+-- `quantization::known` meets its contract: its tests are the definition's. Assumes nothing.
 use borrow.Author.Needs.{needs}
-use Rattle.quantization.proofs.is_known.Statement.{statement}
-use Rattle.quantization.proofs.is_known.Tie as tie
+use Rattle.quantization.proofs.known.Statement.{statement}
+use Rattle.quantization.proofs.known.Tie as tie
 
 model-known-requires : tie.Need-model-known-requires
 model-known-requires c κs = search needs
@@ -18,7 +18,7 @@ channel-known-requires c κs = search needs
 returns : tie.Need-returns
 returns c = cc
 
-pub is-known-spec : {M : Type 1} → statement M
-is-known-spec =
+pub known-spec : {M : Type 1} → statement M
+known-spec =
     tie.close
     (tie.spec model-known-requires known-requires known-requires-2 channel-known-requires returns)

@@ -1,0 +1,102 @@
+-- The claims of specs/Claims.antt. Assumes nothing.
+use mathlib.Core.Path.{_≡_, refl, sym, ap, _∙_, subst}
+use mathlib.Core.Bool.{Bool, true, false, not, cond, _&&_}
+use Prim.Native.Nat.{ℕ, _≤_}
+use native.Mathlib.Omega.{arith}
+use borrow.Author.Tests.{le-ltb, ltb-false}
+use lib.Dec.{ltb}
+use lib.Ieee.{Float}
+use Rattle.lists.proofs.Tests.{and-left, and-right, pass}
+use Rattle.fractions.specs.Fraction.{Fraction, clamp}
+use Rattle.layout.specs.declared.range.Range.{Range}
+use Rattle.layout.specs.declared.range.Range.the-variants.{Narrow, Full}
+use Rattle.layout.specs.declared.kind.Kind.{Kind}
+use Rattle.layout.specs.declared.kind.Kind.the-variants.{Brightness, Difference}
+use Rattle.layout.specs.Layout.{modelKnown, rangeKnown, rangeOf, depthKnown, channelKnown, topOf, kindOf}
+use Rattle.layout.proofs.Depths.{known-between}
+use Rattle.quantization.specs.declared.Dequantized.the-variants.{Refused as NoValue}
+use Rattle.quantization.specs.declared.Quantized.the-variants.{Code, Refused as NoCode}
+use Rattle.quantization.specs.Scale.{scaleOf}
+use Rattle.quantization.specs.Value.{valueOf}
+use Rattle.quantization.specs.Code.{codeOfValue, codeOf}
+use Rattle.quantization.specs.Answer.{channelKnownAt, channelScale, named, dequantized, orRefused, quantized}
+use Rattle.quantization_laws.specs.Claims.{Dequantizes, Quantizes, QuantizesOthers, ZeroIsPlus, Returns, MarkedRight}
+use Rattle.quantization_laws.specs.Printed.{printedUnclamped}
+use Rattle.quantization_laws.specs.Pattern.{patternValue}
+use Rattle.quantization_laws.specs.Nearest.{NearestTo}
+use Rattle.quantization_laws.specs.Marked.{marked, given, stated}
+use Rattle.quantization_laws.proofs.Printed.{value-printed, unclamped-printed}
+use Rattle.quantization_laws.proofs.Pattern.{pattern-code}
+use Rattle.quantization_laws.proofs.Return.{code-returns}
+use Rattle.quantization_laws.proofs.Nearest.{code-nearest, zero-plus}
+
+-- the depth of a known channel lies where the laws are proved
+depth-between : (model range n channel : ℕ) → channelKnownAt model range n channel ≡ true → (8 ≤ n) × (n ≤ 12)
+depth-between model range n channel e =
+    known-between n (and-right (modelKnown model && rangeKnown range) (depthKnown n) (and-left (modelKnown model && rangeKnown range && depthKnown n) (channelKnown channel) e))
+
+-- the clamp of every scale of the paper
+code-printed : (r : Range) (k : Kind) (n : ℕ) (v : Fraction) → codeOfValue (scaleOf r n k) v ≡ clamp 0 (topOf n) (printedUnclamped r k n v)
+unfolding codeOfValue scaleOf
+code-printed Narrow Brightness n v = ap (clamp 0 (topOf n)) (unclamped-printed Narrow Brightness n v)
+code-printed Narrow Difference n v = ap (clamp 0 (topOf n)) (unclamped-printed Narrow Difference n v)
+code-printed Full Brightness n v = ap (clamp 0 (topOf n)) (unclamped-printed Full Brightness n v)
+code-printed Full Difference n v = ap (clamp 0 (topOf n)) (unclamped-printed Full Difference n v)
+
+pub dequantizes : Dequantizes
+unfolding dequantized
+dequantizes model range n channel c e h =
+    let d = depth-between model range n channel e in
+    let sc = channelScale model range n channel in
+    (valueOf sc c, pass _ (ap not e) (pass _ (le-ltb (topOf n) c h) refl),
+    subst (λ (x : Fraction). NearestTo x (valueOf sc c)) (value-printed (rangeOf range) (kindOf model channel) n c) (code-nearest (rangeOf range) (kindOf model channel) n c (d .0) (d .1) h))
+
+pub quantizes : Quantizes
+unfolding quantized
+quantizes model range n channel bits e h =
+    pass _ (ap not e)
+    (ap orRefused (pattern-code (channelScale model range n channel) bits h)
+    ∙ ap Code (code-printed (rangeOf range) (kindOf model channel) n (patternValue bits)))
+
+ends : (r : Range) (k : Kind) (n : ℕ) → (scaleOf r n k .high ≡ topOf n) × (scaleOf r n k .low ≡ 0)
+unfolding scaleOf
+ends Narrow Brightness n = (refl, refl)
+ends Narrow Difference n = (refl, refl)
+ends Full Brightness n = (refl, refl)
+ends Full Difference n = (refl, refl)
+
+pub quantizes-others : QuantizesOthers
+unfolding quantized codeOf
+quantizes-others model range n channel e =
+    let q = ends (rangeOf range) (kindOf model channel) n in
+    (pass _ (ap not e) (ap Code (q .0)), pass _ (ap not e) (ap Code (q .1)), pass _ (ap not e) refl)
+
+pub zero-is-plus : ZeroIsPlus
+zero-is-plus = zero-plus
+
+-- a value is no refusal, and is told by its answer
+not-refused : (k : Kind) (v : Float) (n : ℕ) → NoValue n ≡ named k v → ⊥
+not-refused Brightness v n e = let z : _≡_ {A = ℕ} 0 1 = cc in omega arith
+not-refused Difference v n e = let z : _≡_ {A = ℕ} 0 1 = cc in omega arith
+
+told : (k : Kind) (v w : Float) → named k v ≡ named k w → v ≡ w
+told Brightness v w e = cc
+told Difference v w e = cc
+
+pub returns : Returns
+unfolding dequantized quantized
+returns model range n channel c v e = go (channelKnownAt model range n channel) (ltb (topOf n) c) refl refl e
+  where
+    go : (t h : Bool) → channelKnownAt model range n channel ≡ t → ltb (topOf n) c ≡ h
+        → cond (not t) (NoValue 9) (cond h (NoValue 14) (named (kindOf model channel) (valueOf (channelScale model range n channel) c))) ≡ named (kindOf model channel) v
+        → cond (not t) (NoCode 9) (orRefused (codeOf (channelScale model range n channel) v)) ≡ Code c
+    go false h p q e = absurd (not-refused (kindOf model channel) v 9 e)
+    go true true p q e = absurd (not-refused (kindOf model channel) v 14 e)
+    go true false p q e =
+        let d = depth-between model range n channel p in
+        ap (λ (x : Float). orRefused (codeOf (channelScale model range n channel) x)) (sym (told (kindOf model channel) (valueOf (channelScale model range n channel) c) v e))
+        ∙ ap orRefused (code-returns (rangeOf range) (kindOf model channel) n c (d .0) (d .1) (ltb-false (topOf n) c q))
+
+pub marked-right : MarkedRight
+unfolding given stated marked
+marked-right = refl
