@@ -16,7 +16,14 @@ fn refused(number: u8) -> i64
 
 // The float of a code. Answers 0 for a brightness, 1 for a difference.
 #[no_mangle]
-pub extern "C" fn imurraqi_dequantize(model: u8, range: u8, depth: u8, channel: u8, code: u16, value: &mut f32) -> i64
+pub extern "C" fn imurraqi_dequantize(
+    model: u8,
+    range: u8,
+    depth: u8,
+    channel: u8,
+    code: u16,
+    value: &mut f32,
+) -> i64
     ensures answer { λ r. ⌜ r ≡ dequantizedNumber (dequantized model range depth channel code) ⌝ }
     ensures memory { λ _. ⌜ now (value .exit) ≡ dequantizedValue (dequantized model range depth channel code) (now (value .entry)) ⌝ }
 {

@@ -47,9 +47,11 @@ pub dequantizes : Dequantizes
 unfolding dequantized
 dequantizes model range n channel c e h =
     let d = depth-between model range n channel e in
-    let sc = channelScale model range n channel in
-    (valueOf sc c, pass _ (ap not e) (pass _ (le-ltb (topOf n) c h) refl),
-    subst (λ (x : Fraction). NearestTo x (valueOf sc c)) (value-printed (rangeOf range) (kindOf model channel) n c) (code-nearest (rangeOf range) (kindOf model channel) n c (d .0) (d .1) h))
+    let sc = channelScale model range n channel in (
+      valueOf sc c,
+      pass _ (ap not e) (pass _ (le-ltb (topOf n) c h) refl),
+      subst (λ (x : Fraction). NearestTo x (valueOf sc c)) (value-printed (rangeOf range) (kindOf model channel) n c) (code-nearest (rangeOf range) (kindOf model channel) n c (d .0) (d .1) h),
+    )
 
 pub quantizes : Quantizes
 unfolding quantized

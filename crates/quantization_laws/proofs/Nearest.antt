@@ -2,19 +2,19 @@
 use mathlib.Core.Path.{_≡_, refl, sym, ap, ap₂, _∙_, subst}
 use mathlib.Core.Logic.{_⊎_, inl, inr, ⊎-elim}
 use Prim.Native.Nat.{ℕ, zero, suc, _+_, _-_, _*_, _^_, _≤_, _<_}
-use native.Mathlib.Nat.{add-mul, mul-assoc, mul-comm, mul-left-comm, mul-right-comm, zero-mul, mul-pos, mul-sub, mul-le-mul-right, mul-lt-mul-of-pos-right, eq-of-mul-eq-mul-right, lt-of-not-le, not-le-of-lt, le-refl}
+use native.Mathlib.Nat.{add-mul, mul-assoc, mul-comm, mul-right-comm, zero-mul, mul-pos, mul-le-mul-right, mul-lt-mul-of-pos-right, eq-of-mul-eq-mul-right, lt-of-not-le, not-le-of-lt, le-refl}
 use native.Mathlib.Omega.{arith}
 use mathlib.Core.Bool.{Bool, true, false, Bool-discrete}
 use borrow.Author.Tests.{le-ltb}
 use lib.Dec.{T, ltb, lit<}
 use lib.Pow.{pow-pos}
-use lib.IntN.{ℤ, pos, natAbs, _+ℤ_, _-ℤ_, _*ℤ_}
+use lib.IntN.{ℤ, pos, natAbs, _-ℤ_, _*ℤ_}
 use lib.Ieee.{Float, nan, inf, fin, binary32, up, down, round, fits}
 use lib.Ieee.Fits.{round-fits, down-pos}
 use lib.Ieee.Exact.{HasValue}
 use lib.Ieee.Scale.{grid, round-same}
 use Rattle.lists.proofs.Numbers.{sub-mul}
-use Rattle.fractions.specs.Fraction.{Fraction, _over_, Same}
+use Rattle.fractions.specs.Fraction.{_over_, Same}
 use Rattle.fractions.proofs.Integers.{minus-cases, as-pos, as-neg, minus}
 use Rattle.layout.specs.declared.range.Range.{Range}
 use Rattle.layout.specs.declared.kind.Kind.{Kind}
@@ -30,7 +30,7 @@ use Rattle.quantization.proofs.Fields.{U}
 use Rattle.quantization_laws.proofs.Units.{round-value}
 use Rattle.quantization_laws.proofs.Values.{gap, by-sign, value-rounds}
 use Rattle.quantization_laws.proofs.Closest.{Held, held, Beats, beats, Faces, faces}
-use Rattle.quantization_laws.proofs.Return.{Paper, paper}
+use Rattle.quantization_laws.proofs.Return.{paper}
 
 -- ---- distances of signed numbers
 plusPart : Bool → ℕ → ℕ

@@ -1,16 +1,14 @@
 -- The code of a float is that of the exact value that the paper reads off its bit pattern. Assumes nothing.
-use mathlib.Core.Path.{_≡_, refl, sym, ap, _∙_}
+use mathlib.Core.Path.{_≡_, sym, ap, _∙_}
 use Prim.Native.Nat.{ℕ, zero, suc, _+_, _*_, _^_, _<_}
-use native.Mathlib.Nat.{mul-assoc, mul-left-comm, mul-right-comm, mul-one, pow-succ'}
-use native.Mathlib.Omega.{arith}
+use native.Mathlib.Nat.{mul-assoc, mul-left-comm, mul-one, pow-succ'}
 use mathlib.Core.Bool.{Bool}
 use lib.Pow.{pow-pos}
-use lib.Ieee.{Float, binary32, odd, ofFields, ofBits}
+use lib.Ieee.{binary32, odd, ofFields, ofBits}
 use lib.Ieee.Exact.{odd-sign}
 use Rattle.quantization.specs.declared.scale.Scale.{Scale}
-use Rattle.quantization.specs.declared.code.Coded.{Coded}
 use Rattle.quantization.specs.declared.code.Coded.the-variants.{Code}
-use Rattle.quantization.specs.Code.{signed, codeOfValue, codeOf}
+use Rattle.quantization.specs.Code.{codeOfValue, codeOf}
 use Rattle.quantization.specs.Whole.{wholeCode}
 use Rattle.quantization.proofs.Codes.{code-of-fraction, code-of-value, whole-same}
 use Rattle.quantization.proofs.Fields.{finite}

@@ -1,9 +1,8 @@
 -- Each of the paper's eight lines is the one definition, at that range and kind. Assumes nothing.
 use mathlib.Core.Path.{_≡_, refl, sym, ap, ap₂, _∙_}
-use Prim.Native.Nat.{ℕ, _+_, _-_, _*_, _^_}
+use Prim.Native.Nat.{ℕ, _*_}
 use native.Mathlib.Nat.{mul-comm, mul-assoc, zero-mul}
-use native.Mathlib.Omega.{arith}
-use lib.IntN.{ℤ, pos, _+ℤ_, _-ℤ_, _*ℤ_, +ℤ-idr}
+use lib.IntN.{ℤ, pos, _+ℤ_, _*ℤ_, +ℤ-idr}
 use Rattle.fractions.specs.Fraction.{Fraction, _over_, _·_, _⊕_, halfUp, halfAway}
 use Rattle.fractions.proofs.Integers.{times-times, times-plus}
 use Rattle.layout.specs.declared.range.Range.{Range}

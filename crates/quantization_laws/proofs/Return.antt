@@ -1,24 +1,21 @@
 -- A code, as a float and back, is the code: rounding moves span * value by less than half a code. Assumes nothing.
-use mathlib.Core.Path.{_≡_, refl, sym, ap, _∙_, subst}
+use mathlib.Core.Path.{_≡_, sym, ap, _∙_, subst}
 use Prim.Native.Nat.{ℕ, _+_, _-_, _*_, _/_, _^_, _≤_, _<_}
 use native.Mathlib.Nat.{add-mul}
 use native.Mathlib.Omega.{arith}
-use mathlib.Core.Bool.{Bool, true, false, not, _&&_}
+use mathlib.Core.Bool.{Bool, true, false, not}
 use lib.Dec.{T, ltb, ltb→lt, nltb→le}
 use lib.Pow.{pow-pos}
-use lib.Ieee.{Float, binary32}
-use lib.Ieee.Order.{drop, kept}
+use lib.Ieee.{binary32}
 use lib.Ieee.Scale.{grid}
-use Rattle.lists.proofs.Tests.{and-left, and-right}
 use Rattle.layout.specs.declared.range.Range.{Range}
 use Rattle.layout.specs.declared.range.Range.the-variants.{Narrow, Full}
 use Rattle.layout.specs.declared.kind.Kind.{Kind}
 use Rattle.layout.specs.declared.kind.Kind.the-variants.{Brightness, Difference}
-use Rattle.layout.specs.Layout.{modelKnown, rangeKnown, rangeOf, depthKnown, stepOf, topOf, channelKnown, kindOf}
-use Rattle.layout.proofs.Depths.{Steps, steps, known-between}
+use Rattle.layout.specs.Layout.{stepOf, topOf}
+use Rattle.layout.proofs.Depths.{Steps, steps}
 use Rattle.fractions.specs.Fraction.{bounded}
 use Rattle.quantization.specs.declared.scale.Scale.{Scale}
-use Rattle.quantization.specs.declared.code.Coded.{Coded}
 use Rattle.quantization.specs.declared.code.Coded.the-variants.{Code}
 use Rattle.quantization.specs.Scale.{scaleOf}
 use Rattle.quantization.specs.Value.{valueOf}

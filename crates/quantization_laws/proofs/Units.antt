@@ -1,10 +1,10 @@
 -- `round` of d / p for numbers of 16 bits, in units of the smallest float: the unit that it rounds to is small, and nothing is ever halfway. Assumes nothing.
-use mathlib.Core.Path.{_≡_, refl, sym, ap, _∙_, subst}
+use mathlib.Core.Path.{_≡_, sym, ap, _∙_, subst}
 use Prim.Native.Nat.{ℕ, zero, suc, _+_, _-_, _*_, _/_, _%_, _^_, _≤_, _<_, compare, Ordering, Ordering·lt, Ordering·eq, Ordering·gt}
 use native.Mathlib.Nat.{add-mul, suc-mul, mul-assoc, mul-comm, mul-left-comm, mul-one, mul-zero, mul-pos, mul-le-mul-left, mul-le-mul-right, le-mul-of-pos-right, le-div-iff-mul-le, div-lt-iff-lt-mul, div-add-mod', mod-lt, le-trans, le-of-eq, lt-of-le-of-lt, lt-of-lt-of-le, pow-succ'}
 use native.Mathlib.Decide.{decLe}
 use native.Mathlib.Omega.{arith}
-use mathlib.Core.Bool.{Bool, true, false, not}
+use mathlib.Core.Bool.{Bool, not}
 use lib.Dec.{T, isLe, isEq, leb→le, nleb→lt, eqb→eq, lit<, lit≤}
 use lib.Pow.{pow-add, pow-pos, pow-mono}
 use lib.Ieee.{Float, binary32, size, nearest, round}

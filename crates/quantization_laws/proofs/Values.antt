@@ -1,13 +1,11 @@
 -- The value of a code as a sign and a fraction of natural numbers. Assumes nothing.
-use mathlib.Core.Path.{_≡_, refl, sym, ap, ap₂, _∙_}
-use Prim.Native.Nat.{ℕ, suc, _+_, _-_, _≤_, _<_}
+use mathlib.Core.Path.{_≡_, _∙_}
+use Prim.Native.Nat.{ℕ, suc, _+_, _-_, _<_}
 use native.Mathlib.Omega.{arith}
-use mathlib.Core.Bool.{Bool, true, false}
 use borrow.Author.Tests.{lt-ltb, le-ltb}
 use lib.Dec.{ltb}
-use lib.IntN.{ℤ, pos, negsuc, _-ℤ_}
-use lib.Ieee.{Float, binary32, round}
-use Rattle.fractions.specs.Fraction.{Fraction, _over_}
+use lib.IntN.{ℤ, pos, _-ℤ_}
+use lib.Ieee.{binary32, round}
 use Rattle.fractions.proofs.Integers.{minus-cases}
 use Rattle.quantization.specs.declared.scale.Scale.{Scale}
 use Rattle.quantization.specs.Value.{rounded, valueOf}
