@@ -1,3 +1,4 @@
+pub mod Floor
 pub mod Integers
 pub mod Machine
 pub mod Rounding

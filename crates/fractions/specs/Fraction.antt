@@ -44,7 +44,7 @@ sign (pos zero) = pos 0
 sign (pos (suc n)) = pos 1
 sign (negsuc n) = negsuc 0
 
--- the greatest whole number that is at most a / b
+-- the greatest whole number that is at most a / b (proofs/Floor.antt: a is it times b, and a rest from 0 to b - 1 more)
 abbrev pub quotient : ℤ → ℕ → ℤ
 quotient (pos n) b = pos (n / b)
 quotient (negsuc n) b = negsuc (n / b)
