@@ -2,15 +2,33 @@
  *
  * Every function answers a number of 0 or more, or minus the number of its
  * refusal (document 01: -1 .. -15). On a refusal nothing behind any pointer
- * changes. docs/PROMISES.md says what is proved of each function. */
+ * changes. docs/PROMISES.md says what is proved of each function.
+ *
+ * An array of any length is a pointer and then its length in elements. No
+ * pointer is null, of an empty array neither, and what a function writes to
+ * overlaps nothing else that it is given.
+ *
+ * A layout is eight bytes, in this order: model, primaries, range, depth, bytes
+ * a point, and the bit offsets of channels 0, 1 and 2. */
 #ifndef IMURRAQI_H
 #define IMURRAQI_H
 
+#include <stddef.h>
 #include <stdint.h>
 
 #ifdef __cplusplus
 extern "C" {
 #endif
+
+/* The layout that a descriptor tells. Answers 0. Refused: 1 to 6, in this
+ * order. layout: the eight bytes of the layout read. */
+int64_t imurraqi_descriptor_read(const uint8_t *bytes, size_t len,
+                                 uint8_t layout[8]);
+
+/* Writes the descriptor of a layout, 76 bytes. Answers 0.
+ * Refused: 9, then 13. */
+int64_t imurraqi_descriptor_write(const uint8_t layout[8], uint8_t *out,
+                                  size_t out_len);
 
 /* The float of a code: the f32 nearest to the fraction that it stands for.
  * Answers 0 for a brightness, 1 for a difference. Refused: 9, then 14.
@@ -21,6 +39,27 @@ int64_t imurraqi_dequantize(uint8_t model, uint8_t range, uint8_t depth,
 /* The code of a float, worked out from its exact value. Refused: 9, then 12. */
 int64_t imurraqi_quantize(uint8_t model, uint8_t range, uint8_t depth,
                           uint8_t channel, float value);
+
+/* Encodes one point, as a line of one point is. Answers 1.
+ * Refused: 9, then 13, then 12. */
+int64_t imurraqi_encode_point(const uint8_t layout[8], float channel0,
+                              float channel1, float channel2, uint8_t *out,
+                              size_t out_len);
+
+/* Encodes a line of values, three a point in channel order, to packed points.
+ * Answers the count of points. Refused: 9, then 13, then 12. */
+int64_t imurraqi_encode_line(const uint8_t layout[8], const float *values,
+                             size_t len, uint8_t *out, size_t out_len);
+
+/* The codes of a line of packed points, three a point in channel order.
+ * Answers the count of points. Refused: 9, then 13. */
+int64_t imurraqi_unpack_line(const uint8_t layout[8], const uint8_t *packed,
+                             size_t len, uint16_t *out, size_t out_len);
+
+/* Packs a line of codes, three a point in channel order; unused bits are zero.
+ * Answers the count of points. Refused: 9, then 13, then 14. */
+int64_t imurraqi_pack_line(const uint8_t layout[8], const uint16_t *codes,
+                           size_t len, uint8_t *out, size_t out_len);
 
 #ifdef __cplusplus
 }

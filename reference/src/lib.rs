@@ -4,8 +4,11 @@
 //! plainness to speed: every number is an exact fraction, every float is its
 //! 32 bits, and no float arithmetic is done anywhere.
 
+pub mod descriptor;
 pub mod fixed;
 pub mod float;
 pub mod fraction;
+pub mod layout;
+pub mod lines;
 pub mod quantization;
 pub mod refusal;

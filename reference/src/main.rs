@@ -3,20 +3,31 @@
 use std::env;
 use std::process::ExitCode;
 
+use reference::descriptor;
+use reference::lines;
 use reference::quantization::{self, Kind, Scale};
 use reference::refusal::Refusal;
 
 const USAGE: &str = "\
 usage: reference dequantize MODEL RANGE DEPTH CHANNEL CODE
        reference quantize MODEL RANGE DEPTH CHANNEL VALUE
+       reference unpack LAYOUT BYTES
+       reference pack LAYOUT CODE...
+       reference encode LAYOUT VALUE...
+       reference write LAYOUT
+       reference read BYTES
 MODEL    1 RGB, 2 Y'CbCr
 RANGE    1 narrow, 2 full
 DEPTH    8, 10 or 12
 CHANNEL  0, 1 or 2
-VALUE    decimal text, rounded to the nearest float, or a float's bits as 0x...";
+VALUE    decimal text, rounded to the nearest float, or a float's bits as 0x...
+LAYOUT   model, primaries, range, depth, bytes a point, three bit offsets, as in
+         1,1,2,8,3,0,8,16
+BYTES    hexadecimal digits, two a byte: packed points, or a descriptor to read";
 
 fn main() -> ExitCode {
     let arguments: Vec<String> = env::args().skip(1).collect();
+    let arguments: Vec<&str> = arguments.iter().map(String::as_str).collect();
     match answer(&arguments) {
         Some(Ok(text)) => println!("{text}"),
         Some(Err(refusal)) => println!("refused {}", refusal.number()),
@@ -29,23 +40,38 @@ fn main() -> ExitCode {
 }
 
 /// The answer or refusal, or none if the question is not understood.
-fn answer(arguments: &[String]) -> Option<Result<String, Refusal>> {
-    let [question, model, range, depth, channel, input] = arguments else {
-        return None;
-    };
-    let model = model.parse().ok()?;
-    let range = range.parse().ok()?;
-    let depth = depth.parse().ok()?;
-    let channel = channel.parse().ok()?;
-    match question.as_str() {
-        "dequantize" => {
-            let code = input.parse().ok()?;
-            Some(dequantize(model, range, depth, channel, code))
-        }
-        "quantize" => {
-            let bits = float_bits(input)?;
-            let code = quantization::quantize(model, range, depth, channel, bits);
+fn answer(arguments: &[&str]) -> Option<Result<String, Refusal>> {
+    match *arguments {
+        ["dequantize", model, range, depth, channel, code] => Some(dequantize(
+            model.parse().ok()?,
+            range.parse().ok()?,
+            depth.parse().ok()?,
+            channel.parse().ok()?,
+            code.parse().ok()?,
+        )),
+        ["quantize", model, range, depth, channel, value] => {
+            let code = quantization::quantize(
+                model.parse().ok()?,
+                range.parse().ok()?,
+                depth.parse().ok()?,
+                channel.parse().ok()?,
+                float_bits(value)?,
+            );
             Some(code.map(|code| code.to_string()))
+        }
+        ["unpack", layout, packed] => Some(unpack(numbers(layout)?, &bytes(packed)?)),
+        ["pack", layout, ref codes @ ..] => {
+            let codes: Option<Vec<u16>> = codes.iter().map(|code| code.parse().ok()).collect();
+            Some(pack(numbers(layout)?, &codes?))
+        }
+        ["encode", layout, ref values @ ..] => {
+            let values: Option<Vec<u32>> = values.iter().map(|value| float_bits(value)).collect();
+            Some(encode(numbers(layout)?, &values?))
+        }
+        ["write", layout] => Some(write(numbers(layout)?)),
+        ["read", descriptor] => {
+            let layout = descriptor::read(&bytes(descriptor)?);
+            Some(layout.map(|numbers| separated(&numbers, ",")))
         }
         _ => None,
     }
@@ -63,10 +89,65 @@ fn dequantize(model: u8, range: u8, depth: u8, channel: u8, code: u16) -> Result
     Ok(format!("{kind} {float:?} 0x{bits:08x} {fraction}"))
 }
 
+fn unpack(layout: [u8; 8], packed: &[u8]) -> Result<String, Refusal> {
+    // A layout without bytes is refused, whatever the output.
+    let points = packed.len().checked_div(bytes_a_point(layout)).unwrap_or(0);
+    let mut codes = vec![0; 3 * points];
+    lines::unpack_line(layout, packed, &mut codes)?;
+    Ok(separated(&codes, " "))
+}
+
+fn pack(layout: [u8; 8], codes: &[u16]) -> Result<String, Refusal> {
+    let mut packed = vec![0; codes.len() / 3 * bytes_a_point(layout)];
+    lines::pack_line(layout, codes, &mut packed)?;
+    Ok(hexadecimal(&packed))
+}
+
+fn encode(layout: [u8; 8], values: &[u32]) -> Result<String, Refusal> {
+    let mut packed = vec![0; values.len() / 3 * bytes_a_point(layout)];
+    lines::encode_line(layout, values, &mut packed)?;
+    Ok(hexadecimal(&packed))
+}
+
+fn write(layout: [u8; 8]) -> Result<String, Refusal> {
+    let mut bytes = [0; descriptor::SIZE];
+    descriptor::write(layout, &mut bytes)?;
+    Ok(hexadecimal(&bytes))
+}
+
+fn bytes_a_point([_, _, _, _, bytes, ..]: [u8; 8]) -> usize {
+    bytes.into()
+}
+
 fn float_bits(text: &str) -> Option<u32> {
     match text.strip_prefix("0x") {
         Some(digits) => u32::from_str_radix(digits, 16).ok(),
         // The standard library rounds decimal text to the nearest float.
         None => text.parse().ok().map(f32::to_bits),
     }
+}
+
+/// Eight numbers with commas between them.
+fn numbers(text: &str) -> Option<[u8; 8]> {
+    let numbers: Option<Vec<u8>> = text.split(',').map(|number| number.parse().ok()).collect();
+    numbers?.try_into().ok()
+}
+
+fn bytes(digits: &str) -> Option<Vec<u8>> {
+    let digits: Option<Vec<u8>> = digits
+        .chars()
+        .map(|digit| digit.to_digit(16).map(|digit| digit as u8))
+        .collect();
+    let (pairs, rest) = digits.as_ref()?.as_chunks();
+    let bytes = pairs.iter().map(|[high, low]| 16 * high + low);
+    rest.is_empty().then(|| bytes.collect())
+}
+
+fn hexadecimal(bytes: &[u8]) -> String {
+    bytes.iter().map(|byte| format!("{byte:02x}")).collect()
+}
+
+fn separated<T: ToString>(numbers: &[T], separator: &str) -> String {
+    let numbers: Vec<String> = numbers.iter().map(T::to_string).collect();
+    numbers.join(separator)
 }

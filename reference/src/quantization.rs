@@ -45,7 +45,11 @@ pub fn dequantize(
 
 /// The code of the float with these bits.
 pub fn quantize(model: u8, range: u8, depth: u8, channel: u8, bits: u32) -> Result<u16, Refusal> {
-    let scale = Scale::new(model, range, depth, channel)?;
+    code(Scale::new(model, range, depth, channel)?, bits)
+}
+
+/// The code of the float with these bits on a scale.
+pub fn code(scale: Scale, bits: u32) -> Result<u16, Refusal> {
     match float::value(bits) {
         Value::NotANumber => Err(Refusal::NotANumber),
         Value::PlusInfinity => Ok(scale.clamp(m(scale.depth))),

@@ -3,9 +3,24 @@
 /// A refusal, by its row in the paper's table.
 #[derive(Clone, Copy, Debug, PartialEq, Eq)]
 pub enum Refusal {
+    /// A descriptor that is not 76 bytes.
+    Size = 1,
+    /// Bytes 0 to 11 of a descriptor.
+    Header = 2,
+    /// Bytes 12 to 15 of a descriptor.
+    Color = 3,
+    /// Bytes 16 to 27 of a descriptor.
+    TexelBlock = 4,
+    /// A sample's offset, length, channel, position or order.
+    Sample = 5,
+    /// Lower and upper numbers that state no one range.
+    SampleRange = 6,
     /// A card field, layout, range, depth, channel or weights row outside the paper.
     Outside = 9,
     NotANumber = 12,
+    /// A line not of whole points or over 4,096 points, or an output that is not
+    /// exactly as long as needed.
+    Length = 13,
     /// A code above 2^n - 1.
     CodeTooHigh = 14,
 }

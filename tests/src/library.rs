@@ -1,7 +1,13 @@
 //! The library under test, as plain functions.
 
+use crate::guarded::Guarded;
+
 /// Model, range, depth and channel, in this order.
 pub type Setting = [u8; 4];
+
+/// Model, primaries, range, depth, bytes a point, and the bit offset of channel
+/// 0, 1, 2, in this order.
+pub type Layout = [u8; 8];
 
 /// The float that dequantizing fills lies among guard words, so that a write
 /// beside it is seen.
@@ -16,12 +22,25 @@ pub const FLOAT: usize = 2;
 pub struct Library {
     pub dequantize: fn(Setting, u16, &mut Slot) -> i64,
     pub quantize: fn(Setting, f32) -> i64,
+    pub unpack_line: fn(Layout, &[u8], &mut Guarded<u16>) -> i64,
+    pub pack_line: fn(Layout, &[u16], &mut Guarded<u8>) -> i64,
+    pub encode_line: fn(Layout, &[f32], &mut Guarded<u8>) -> i64,
+    pub encode_point: fn(Layout, [f32; 3], &mut Guarded<u8>) -> i64,
+    /// The output has the length of a layout.
+    pub descriptor_read: fn(&[u8], &mut Guarded<u8>) -> i64,
+    pub descriptor_write: fn(Layout, &mut Guarded<u8>) -> i64,
 }
 
 /// The static library that this program is linked with.
 pub const LINKED: Library = Library {
     dequantize,
     quantize,
+    unpack_line,
+    pack_line,
+    encode_line,
+    encode_point,
+    descriptor_read,
+    descriptor_write,
 };
 
 extern "C" {
@@ -35,6 +54,43 @@ extern "C" {
     ) -> i64;
 
     fn imurraqi_quantize(model: u8, range: u8, depth: u8, channel: u8, value: f32) -> i64;
+
+    fn imurraqi_unpack_line(
+        layout: *const u8,
+        packed: *const u8,
+        length: usize,
+        out: *mut u16,
+        out_length: usize,
+    ) -> i64;
+
+    fn imurraqi_pack_line(
+        layout: *const u8,
+        codes: *const u16,
+        length: usize,
+        out: *mut u8,
+        out_length: usize,
+    ) -> i64;
+
+    fn imurraqi_encode_line(
+        layout: *const u8,
+        values: *const f32,
+        length: usize,
+        out: *mut u8,
+        out_length: usize,
+    ) -> i64;
+
+    fn imurraqi_encode_point(
+        layout: *const u8,
+        first: f32,
+        second: f32,
+        third: f32,
+        out: *mut u8,
+        out_length: usize,
+    ) -> i64;
+
+    fn imurraqi_descriptor_read(bytes: *const u8, length: usize, layout: *mut u8) -> i64;
+
+    fn imurraqi_descriptor_write(layout: *const u8, out: *mut u8, out_length: usize) -> i64;
 }
 
 fn dequantize([model, range, depth, channel]: Setting, code: u16, slot: &mut Slot) -> i64 {
@@ -48,4 +104,70 @@ fn dequantize([model, range, depth, channel]: Setting, code: u16, slot: &mut Slo
 fn quantize([model, range, depth, channel]: Setting, value: f32) -> i64 {
     // SAFETY: the function takes numbers alone.
     unsafe { imurraqi_quantize(model, range, depth, channel, value) }
+}
+
+fn unpack_line(layout: Layout, packed: &[u8], codes: &mut Guarded<u16>) -> i64 {
+    // SAFETY: the pointers are to as many elements as the lengths say, eight for
+    // the layout, and nothing else uses the output.
+    unsafe {
+        imurraqi_unpack_line(
+            layout.as_ptr(),
+            packed.as_ptr(),
+            packed.len(),
+            codes.pointer(),
+            codes.length(),
+        )
+    }
+}
+
+fn pack_line(layout: Layout, codes: &[u16], packed: &mut Guarded<u8>) -> i64 {
+    // SAFETY: as for `unpack_line`.
+    unsafe {
+        imurraqi_pack_line(
+            layout.as_ptr(),
+            codes.as_ptr(),
+            codes.len(),
+            packed.pointer(),
+            packed.length(),
+        )
+    }
+}
+
+fn encode_line(layout: Layout, values: &[f32], packed: &mut Guarded<u8>) -> i64 {
+    // SAFETY: as for `unpack_line`.
+    unsafe {
+        imurraqi_encode_line(
+            layout.as_ptr(),
+            values.as_ptr(),
+            values.len(),
+            packed.pointer(),
+            packed.length(),
+        )
+    }
+}
+
+fn encode_point(layout: Layout, values: [f32; 3], packed: &mut Guarded<u8>) -> i64 {
+    let [first, second, third] = values;
+    // SAFETY: as for `unpack_line`.
+    unsafe {
+        imurraqi_encode_point(
+            layout.as_ptr(),
+            first,
+            second,
+            third,
+            packed.pointer(),
+            packed.length(),
+        )
+    }
+}
+
+fn descriptor_read(bytes: &[u8], layout: &mut Guarded<u8>) -> i64 {
+    assert_eq!(layout.length(), size_of::<Layout>());
+    // SAFETY: as for `unpack_line`; the output has the length of a layout.
+    unsafe { imurraqi_descriptor_read(bytes.as_ptr(), bytes.len(), layout.pointer()) }
+}
+
+fn descriptor_write(layout: Layout, out: &mut Guarded<u8>) -> i64 {
+    // SAFETY: as for `unpack_line`.
+    unsafe { imurraqi_descriptor_write(layout.as_ptr(), out.pointer(), out.length()) }
 }

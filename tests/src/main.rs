@@ -10,7 +10,11 @@ use crate::library::LINKED;
 use crate::part::Part;
 use crate::tally::Tally;
 
+mod descriptor;
+mod guarded;
+mod layouts;
 mod library;
+mod lines;
 mod part;
 mod plain;
 mod quantization;
@@ -72,7 +76,7 @@ fn run(part: &Part) -> Tally {
     let mut tally = Tally::default();
     // This tally never stops early.
     let _ = (part.run)(&LINKED, &mut tally);
-    println!("{:32}{:9} comparisons", part.name, tally.comparisons);
+    println!("{:36}{:9} comparisons", part.name, tally.comparisons);
     show_differences(&tally);
     tally
 }

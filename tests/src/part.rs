@@ -1,6 +1,8 @@
 //! A part of the tests.
 
+use crate::descriptor;
 use crate::library::Library;
+use crate::lines;
 use crate::quantization;
 use crate::tally::{Flow, Tally};
 
@@ -15,7 +17,9 @@ pub const fn part(name: &'static str, run: fn(&Library, &mut Tally) -> Flow) -> 
 
 /// Every part that tries a library, subject after subject.
 pub fn library_parts() -> impl Iterator<Item = &'static Part> {
-    quantization::PARTS.iter()
+    [quantization::PARTS, lines::PARTS, descriptor::PARTS]
+        .into_iter()
+        .flatten()
 }
 
 /// Every part that needs no library.

@@ -1,76 +1,35 @@
-//! A plain program in float arithmetic, which knows nothing of the reference's
-//! fractions. Its pieces can be exchanged for wrong ones.
+//! A plain program, which knows nothing of the reference's numbers: values in
+//! float arithmetic, points bit by bit, descriptors byte by byte. Its pieces can
+//! be exchanged for wrong ones.
 
-use reference::quantization::{Kind, Range, Scale};
-use reference::refusal::Refusal;
+use crate::library::Library;
 
-use crate::library::{Library, Setting, Slot, FLOAT};
-use crate::quantization::{refused, scale};
+pub mod descriptor;
+pub mod layout;
+pub mod lines;
+pub mod quantization;
+
+use self::quantization::{divided, half_up, line, rounded};
 
 pub const PLAIN: Library = Library {
     dequantize: |setting, code, slot| divided(setting, code, slot, line, |p, q| p / q),
     quantize: |setting, value| rounded(setting, value, line, half_up),
+    unpack_line: |layout, packed, out| lines::unpacked(layout, packed, out, lines::place),
+    pack_line: |layout, codes, out| lines::packed(layout, codes, out, lines::place),
+    encode_line: |layout, values, out| {
+        lines::encoded(layout, values, out, |setting, value| {
+            rounded(setting, value, line, half_up)
+        })
+    },
+    encode_point: |layout, values, out| {
+        lines::encoded(layout, &values, out, |setting, value| {
+            rounded(setting, value, line, half_up)
+        })
+    },
+    descriptor_read: |bytes, out| {
+        descriptor::read(bytes, out, descriptor::rising, descriptor::limits)
+    },
+    descriptor_write: |layout, out| {
+        descriptor::written(layout, out, descriptor::rising, descriptor::limits)
+    },
 };
-
-/// A scale as a straight line: a code is the base plus the value times the step.
-pub type Line = fn(Scale) -> (i32, i32);
-
-pub fn line(scale: Scale) -> (i32, i32) {
-    let n = scale.depth;
-    let s = 1 << (n - 8);
-    match (scale.range, scale.kind) {
-        (Range::Narrow, Kind::Brightness) => (219 * s, 16 * s),
-        (Range::Narrow, Kind::Difference) => (224 * s, 128 * s),
-        (Range::Full, Kind::Brightness) => ((1 << n) - 1, 0),
-        (Range::Full, Kind::Difference) => ((1 << n) - 1, 1 << (n - 1)),
-    }
-}
-
-/// Dequantizes with the given line and division.
-pub fn divided(
-    setting: Setting,
-    code: u16,
-    slot: &mut Slot,
-    line: Line,
-    divide: fn(f32, f32) -> f32,
-) -> i64 {
-    let scale = match scale(setting) {
-        Ok(scale) => scale,
-        Err(refusal) => return refused(refusal),
-    };
-    if code >> scale.depth != 0 {
-        return refused(Refusal::CodeTooHigh);
-    }
-    let (step, base) = line(scale);
-    let above_base = i32::from(code) - base;
-    slot[FLOAT] = divide(above_base as f32, step as f32).to_bits();
-    i64::from(scale.kind == Kind::Difference)
-}
-
-/// Quantizes with the given line and rounding.
-pub fn rounded(setting: Setting, value: f32, line: Line, round: fn(f64) -> f64) -> i64 {
-    numbered(setting, value, |scale, v| round(on_line(line(scale), v)))
-}
-
-/// The whole number is the rule's; refusals and clamping are right.
-pub fn numbered(setting: Setting, value: f32, rule: impl Fn(Scale, f32) -> f64) -> i64 {
-    match scale(setting) {
-        Err(refusal) => refused(refusal),
-        Ok(_) if value.is_nan() => refused(Refusal::NotANumber),
-        // A float beyond 64 bits, infinities too, becomes the last number there.
-        Ok(scale) => (rule(scale, value) as i64).clamp(0, (1 << scale.depth) - 1),
-    }
-}
-
-/// The number on a line, before rounding.
-///
-/// It is exact wherever rounding matters. The product has at most 24 + 12 bits. A
-/// float of 2^-17 or above has no bit under 2^-40, so with a base under 2^12 the
-/// sum has at most 52. A smaller float moves the base by less than a half.
-pub fn on_line((step, base): (i32, i32), value: f32) -> f64 {
-    f64::from(value) * f64::from(step) + f64::from(base)
-}
-
-pub fn half_up(x: f64) -> f64 {
-    (x + 0.5).floor()
-}

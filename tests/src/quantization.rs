@@ -11,7 +11,7 @@ use crate::tally::{Flow, Tally};
 mod codes;
 mod examples;
 pub mod exhaustive;
-mod floats;
+pub mod floats;
 mod reference_itself;
 mod refusals;
 
@@ -64,7 +64,7 @@ pub fn scale([model, range, depth, channel]: Setting) -> Result<Scale, Refusal> 
 }
 
 /// The scale of a setting that is known to have one.
-fn scale_of(setting: Setting) -> Scale {
+pub fn scale_of(setting: Setting) -> Scale {
     scale(setting).expect("a setting inside the paper")
 }
 

@@ -15,4 +15,13 @@ impl Random {
         self.0 ^= self.0 << 17;
         (self.0 >> 32) as u32
     }
+
+    /// A number under a bound.
+    pub fn below(&mut self, bound: usize) -> usize {
+        self.next() as usize % bound
+    }
+
+    pub fn one_in(&mut self, bound: usize) -> bool {
+        self.below(bound) == 0
+    }
 }

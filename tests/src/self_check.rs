@@ -1,32 +1,84 @@
 //! Tests that nothing can fail show nothing: right programs must pass them, and
 //! every wrong one must be caught.
 
+use std::sync::atomic::{AtomicUsize, Ordering};
+use std::thread;
+
 use crate::library::Library;
-use crate::part::library_parts;
+use crate::part::{library_parts, Part};
 use crate::tally::Tally;
 use crate::wrong::{RIGHT, WRONG};
 
-/// Whether the tests tell right programs from wrong ones.
-pub fn run() -> bool {
-    let passed = RIGHT.iter().all(|library| !caught(library));
-    if !passed {
-        println!("self-check: a right program was caught");
-    }
-    let missed: Vec<&str> = WRONG
-        .iter()
-        .filter(|(_, library)| !caught(library))
-        .map(|(mistake, _)| *mistake)
-        .collect();
-    for mistake in &missed {
-        println!("self-check: not caught: {mistake}");
-    }
-    if missed.is_empty() {
-        println!("self-check: {} wrong programs, all caught", WRONG.len());
-    }
-    passed && missed.is_empty()
+/// A program with the parts that try it.
+struct Trial {
+    /// None if the program is right.
+    mistake: Option<&'static str>,
+    library: &'static Library,
+    parts: Vec<&'static Part>,
 }
 
-fn caught(library: &Library) -> bool {
+/// Whether the tests tell right programs from wrong ones.
+pub fn run() -> bool {
+    let trials: Vec<Trial> = right_trials().chain(wrong_trials()).collect();
+    let failed = failed(&trials);
+    for trial in &failed {
+        match trial.mistake {
+            None => println!("self-check: a right program was caught"),
+            Some(mistake) => println!("self-check: not caught: {mistake}"),
+        }
+    }
+    if failed.is_empty() {
+        let wrong = wrong_trials().count();
+        println!("self-check: {wrong} wrong programs, all caught");
+    }
+    failed.is_empty()
+}
+
+fn right_trials() -> impl Iterator<Item = Trial> {
+    RIGHT.iter().map(|library| Trial {
+        mistake: None,
+        library,
+        parts: library_parts().collect(),
+    })
+}
+
+/// A subject's wrong programs must be caught by its own parts.
+fn wrong_trials() -> impl Iterator<Item = Trial> {
+    WRONG.iter().flat_map(|(parts, programs)| {
+        programs.iter().map(|(mistake, library)| Trial {
+            mistake: Some(mistake),
+            library,
+            parts: parts.iter().collect(),
+        })
+    })
+}
+
+/// The trials that do not end as they must. They are made on all cores.
+fn failed(trials: &[Trial]) -> Vec<&Trial> {
+    let next = AtomicUsize::new(0);
+    let work = || {
+        let mut failed = Vec::new();
+        while let Some(trial) = trials.get(next.fetch_add(1, Ordering::Relaxed)) {
+            if caught(trial) != trial.mistake.is_some() {
+                failed.push(trial);
+            }
+        }
+        failed
+    };
+    let workers = thread::available_parallelism().map_or(1, |number| number.get());
+    thread::scope(|scope| {
+        let threads: Vec<_> = (0..workers).map(|_| scope.spawn(work)).collect();
+        threads
+            .into_iter()
+            .flat_map(|thread| thread.join().expect("a thread that ends by itself"))
+            .collect()
+    })
+}
+
+fn caught(trial: &Trial) -> bool {
     let mut tally = Tally::stopping_early();
-    library_parts().any(|part| (part.run)(library, &mut tally).is_break())
+    trial
+        .parts
+        .iter()
+        .any(|part| (part.run)(trial.library, &mut tally).is_break())
 }

@@ -1,270 +1,43 @@
 //! Programs with one mistake each, which the tests must catch, made from two
 //! right programs, which the tests must pass.
 
-use reference::quantization::{Kind, Range, Scale};
-use reference::refusal::Refusal;
+use crate::descriptor::{self as descriptors, expected_read, expected_write};
+use crate::library::Library;
+use crate::lines::{
+    self, expected_encode_line, expected_encode_point, expected_pack_line, expected_unpack_line,
+};
+use crate::part::Part;
+use crate::plain::PLAIN;
+use crate::quantization::{self as values, expected_dequantize, expected_quantize};
 
-use crate::library::{Library, Setting, Slot, FLOAT};
-use crate::plain::{divided, half_up, line, numbered, on_line, rounded, PLAIN};
-use crate::quantization::{expected_dequantize, expected_quantize, refused, scale};
+mod descriptor;
+mod encode;
+mod pack;
+mod points;
+mod quantization;
+mod unpack;
 
-const REFERENCE: Library = Library {
+/// A mistake, and the program that makes it.
+pub type Wrong = (&'static str, Library);
+
+pub const REFERENCE: Library = Library {
     dequantize: expected_dequantize,
     quantize: |setting, value| expected_quantize(setting, value.to_bits()),
+    unpack_line: expected_unpack_line,
+    pack_line: expected_pack_line,
+    encode_line: expected_encode_line,
+    encode_point: expected_encode_point,
+    descriptor_read: expected_read,
+    descriptor_write: expected_write,
 };
 
 pub const RIGHT: &[Library] = &[REFERENCE, PLAIN];
 
-pub const WRONG: &[(&str, Library)] = &[
-    // Floats to codes: the formulas.
-    quantizes("a rounded product", |setting, value| {
-        numbered(setting, value, |scale, v| {
-            let (step, base) = line(scale);
-            f64::from((v * step as f32 + base as f32 + 0.5).floor())
-        })
-    }),
-    quantizes(
-        "128 as the base of full-range difference",
-        |setting, value| rounded(setting, value, line_with_base_128, half_up),
-    ),
-    quantizes("the older full range", |setting, value| {
-        rounded(setting, value, older_line, half_up)
-    }),
-    quantizes(
-        "only 8 bits right",
-        |[model, range, depth, channel], value| {
-            let code = expected_quantize([model, range, 8, channel], value.to_bits());
-            match scale([model, range, depth, channel]) {
-                Ok(scale) if code >= 0 => code << (scale.depth - 8),
-                Ok(_) => code,
-                Err(refusal) => refused(refusal),
-            }
-        },
-    ),
-    // Floats to codes: rounding and clamping.
-    quantizes("truncation for rounding", |setting, value| {
-        rounded(setting, value, line, f64::trunc)
-    }),
-    quantizes("a half rounded down", |setting, value| {
-        rounded(setting, value, line, |x| (x - 0.5).ceil())
-    }),
-    quantizes("a half rounded to even", |setting, value| {
-        rounded(setting, value, line, f64::round_ties_even)
-    }),
-    quantizes("one tie of one scale rounded down", |setting, value| {
-        let code = expected_quantize(setting, value.to_bits());
-        let tie = setting == [1, 2, 12, 2] && value == 0.5;
-        code - i64::from(tie)
-    }),
-    quantizes("the next float above quantized", |setting, value| {
-        expected_quantize(setting, value.next_up().to_bits())
-    }),
-    quantizes("rounding without the sign", |setting, value| {
-        rounded(setting, value, line, |x| (x.abs() + 0.5).floor())
-    }),
-    quantizes("full difference 0.5 wraps to 0", |setting, value| {
-        let code = expected_quantize(setting, value.to_bits());
-        match scale(setting) {
-            Ok(scale) if is_full_difference(scale) && value == 0.5 => 0,
-            _ => code,
-        }
-    }),
-    quantizes("no clamping at the top", |setting, value| {
-        match scale(setting) {
-            Ok(scale) if value.is_finite() => half_up(on_line(line(scale), value)).max(0.0) as i64,
-            _ => expected_quantize(setting, value.to_bits()),
-        }
-    }),
-    quantizes("narrow clamped to its nominal range", |setting, value| {
-        let code = expected_quantize(setting, value.to_bits());
-        match scale(setting) {
-            Ok(scale) if scale.range == Range::Narrow && code >= 0 => {
-                let [lower, upper] = match scale.kind {
-                    Kind::Brightness => [16, 235],
-                    Kind::Difference => [16, 240],
-                };
-                code.clamp(lower << (scale.depth - 8), upper << (scale.depth - 8))
-            }
-            _ => code,
-        }
-    }),
-    quantizes("large numbers cut to 32 bits", |setting, value| {
-        rounded(
-            setting,
-            value,
-            line,
-            |x| f64::from(half_up(x) as i64 as i32),
-        )
-    }),
-    // Floats to codes: reading the bits.
-    quantizes("minus infinity to the top", |setting, value| {
-        let minus_infinity = value == f32::NEG_INFINITY;
-        let value = if minus_infinity { -value } else { value };
-        expected_quantize(setting, value.to_bits())
-    }),
-    quantizes("infinities refused", |setting, value| {
-        let value = if value.is_infinite() { f32::NAN } else { value };
-        expected_quantize(setting, value.to_bits())
-    }),
-    quantizes("not-a-number given a code", |setting, value| {
-        let value = if value.is_nan() { 0.0 } else { value };
-        expected_quantize(setting, value.to_bits())
-    }),
-    quantizes("signalling not-a-number given a code", |setting, value| {
-        let signalling = value.is_nan() && value.to_bits() >> 22 & 1 == 0;
-        let value = if signalling { 0.0 } else { value };
-        expected_quantize(setting, value.to_bits())
-    }),
-    quantizes("a shift beyond 63 places wraps round", |setting, value| {
-        // To shift by 64 places less is to have 64 more in the exponent field.
-        let mut bits = value.to_bits();
-        while bits >> 23 & 255 < 150 - 64 {
-            bits += 64 << 23;
-        }
-        expected_quantize(setting, bits)
-    }),
-    // Codes to floats.
-    dequantizes("a constant float", |setting, code, slot| {
-        let answer = expected_dequantize(setting, code, slot);
-        if answer >= 0 {
-            slot[FLOAT] = 0.5_f32.to_bits();
-        }
-        answer
-    }),
-    dequantizes("minus zero for zero", |setting, code, slot| {
-        let answer = expected_dequantize(setting, code, slot);
-        if answer >= 0 && slot[FLOAT] == 0 {
-            slot[FLOAT] = (-0.0_f32).to_bits();
-        }
-        answer
-    }),
-    dequantizes(
-        "one code of one scale one step off",
-        |setting, code, slot| {
-            let answer = expected_dequantize(setting, code, slot);
-            if setting == [2, 1, 12, 2] && code == 1234 {
-                slot[FLOAT] += 1;
-            }
-            answer
-        },
-    ),
-    dequantizes("a product with the reciprocal", |setting, code, slot| {
-        divided(setting, code, slot, line, |p, q| p * (1.0 / q))
-    }),
-    dequantizes("floats rounded towards zero", |setting, code, slot| {
-        divided(setting, code, slot, line, |p, q| {
-            let nearest = p / q;
-            let too_far = f64::from(nearest).abs() * f64::from(q) > f64::from(p).abs();
-            f32::from_bits(nearest.to_bits() - u32::from(too_far))
-        })
-    }),
-    dequantizes(
-        "128 as the base of full-range difference",
-        |setting, code, slot| divided(setting, code, slot, line_with_base_128, |p, q| p / q),
-    ),
-    dequantizes("the older full range", |setting, code, slot| {
-        divided(setting, code, slot, older_line, |p, q| p / q)
-    }),
-    dequantizes(
-        "the kinds exchanged",
-        |setting, code, slot| match expected_dequantize(setting, code, slot) {
-            kind @ 0.. => 1 - kind,
-            refusal => refusal,
-        },
-    ),
-    dequantizes("G' and B' taken for differences", |setting, code, slot| {
-        let [model, range, depth, channel] = setting;
-        let model = if model == 1 { 2 } else { model };
-        expected_dequantize([model, range, depth, channel], code, slot)
-    }),
-    dequantizes("eight bytes written", |setting, code, slot| {
-        let answer = expected_dequantize(setting, code, slot);
-        if answer >= 0 {
-            slot[FLOAT + 1] = 0;
-        }
-        answer
-    }),
-    // Refusals.
-    dequantizes("the float written on a refusal", |setting, code, slot| {
-        slot[FLOAT] = 0;
-        expected_dequantize(setting, code, slot)
-    }),
-    dequantizes(
-        "13 for 14",
-        |setting, code, slot| match expected_dequantize(setting, code, slot) {
-            -14 => -13,
-            answer => answer,
-        },
-    ),
-    dequantizes("14 before 9", |setting, code, slot| match code {
-        4096.. => refused(Refusal::CodeTooHigh),
-        _ => expected_dequantize(setting, code, slot),
-    }),
-    quantizes("12 before 9", |setting, value| match value.is_nan() {
-        true => refused(Refusal::NotANumber),
-        false => expected_quantize(setting, value.to_bits()),
-    }),
-    quantizes("channel 3 taken for channel 0", |setting, value| {
-        let [model, range, depth, channel] = setting;
-        let channel = if channel == 3 { 0 } else { channel };
-        expected_quantize([model, range, depth, channel], value.to_bits())
-    }),
-    dequantizes("depth 16 taken for 12", |setting, code, slot| {
-        let [model, range, depth, channel] = setting;
-        let depth = if depth == 16 { 12 } else { depth };
-        expected_dequantize([model, range, depth, channel], code, slot)
-    }),
-    dequantizes("model 3 with range 0 accepted", |setting, code, slot| {
-        let [model, range, depth, channel] = setting;
-        match [model, range] {
-            [3, 0] => expected_dequantize([1, 1, depth, channel], code, slot),
-            _ => expected_dequantize(setting, code, slot),
-        }
-    }),
-    (
-        "everything refused",
-        Library {
-            dequantize: |_, _, _| refused(Refusal::Outside),
-            quantize: |_, _| refused(Refusal::Outside),
-        },
-    ),
+/// The wrong programs of each subject, with the parts that must catch them.
+pub const WRONG: &[(&[Part], &[Wrong])] = &[
+    (values::PARTS, quantization::WRONG),
+    (lines::PARTS, unpack::WRONG),
+    (lines::PARTS, pack::WRONG),
+    (lines::PARTS, encode::WRONG),
+    (descriptors::PARTS, descriptor::WRONG),
 ];
-
-const fn dequantizes(
-    mistake: &'static str,
-    dequantize: fn(Setting, u16, &mut Slot) -> i64,
-) -> (&'static str, Library) {
-    let library = Library {
-        dequantize,
-        ..REFERENCE
-    };
-    (mistake, library)
-}
-
-const fn quantizes(
-    mistake: &'static str,
-    quantize: fn(Setting, f32) -> i64,
-) -> (&'static str, Library) {
-    let library = Library {
-        quantize,
-        ..REFERENCE
-    };
-    (mistake, library)
-}
-
-fn line_with_base_128(scale: Scale) -> (i32, i32) {
-    let (step, base) = line(scale);
-    (step, if is_full_difference(scale) { 128 } else { base })
-}
-
-fn older_line(scale: Scale) -> (i32, i32) {
-    let (step, base) = line(scale);
-    match scale.range {
-        Range::Narrow => (step, base),
-        Range::Full => (step + 1, base),
-    }
-}
-
-fn is_full_difference(scale: Scale) -> bool {
-    scale.range == Range::Full && scale.kind == Kind::Difference
-}

@@ -2,16 +2,98 @@
 // the number of its refusal; on a refusal nothing behind a pointer changes.
 ghost use mathlib.Core.Path.{_≡_};
 ghost use lib.IntN.{pos, negℤ};
+ghost use mathlib.Core.Bool.{true};
+ghost use lib.ListN.{length};
 ghost use Rattle.quantization.specs.Answer.{dequantized, quantized};
-ghost use Rattle.imurraqi.specs.Numbers.{dequantizedNumber, dequantizedValue, quantizedNumber};
+ghost use Rattle.descriptor.specs.Descriptor.{readDescriptor, writeAnswer, writeOutput};
+ghost use Rattle.scanline.specs.Answer.{unpackAnswer, packAnswer, encodeAnswer, kept};
+ghost use Rattle.scanline.specs.Line.{codesOf, packedOf};
+ghost use Rattle.scanline.specs.Encode.{quantizedOf};
+ghost use Rattle.imurraqi.specs.Numbers.{dequantizedNumber, dequantizedValue, quantizedNumber, lineNumber, smallLine, readNumber, readLayout, writtenNumber};
+ghost use Rattle.imurraqi.specs.Layouts.{layoutOf, bytesOf, valuesOf};
+use descriptor::Reading;
+use descriptor::Writing;
+use layout::Layout;
 use quantization::Dequantized;
 use quantization::Quantized;
+use scanline::LineAnswer;
+use scanline::Point;
 
 // A refusal's number in C.
 fn refused(number: u8) -> i64
     ensures { λ r. ⌜ r ≡ negℤ (pos number) ⌝ }
 {
     -(number as i64)
+}
+
+// A line's answer in C.
+fn line_number(answer: LineAnswer) -> i64
+    requires { ⌜ smallLine answer ≡ true ⌝ }
+    ensures { λ r. ⌜ r ≡ lineNumber answer ⌝ }
+{
+    match answer {
+        LineAnswer::Points(count) => count as i64,
+        LineAnswer::Refused(number) => refused(number),
+    }
+}
+
+// The layout of eight bytes.
+fn layout_of(bytes: &[u8; 8]) -> Layout
+    ensures { λ r. ⌜ r ≡ layoutOf (now (bytes .entry)) ⌝ }
+{
+    Layout {
+        model: bytes[0],
+        primaries: bytes[1],
+        range: bytes[2],
+        depth: bytes[3],
+        bytes: bytes[4],
+        offset0: bytes[5],
+        offset1: bytes[6],
+        offset2: bytes[7],
+    }
+}
+
+// The eight bytes of a layout.
+fn bytes_of(layout: Layout) -> [u8; 8]
+    ensures { λ r. ⌜ r ≡ bytesOf layout ⌝ }
+{
+    [
+        layout.model,
+        layout.primaries,
+        layout.range,
+        layout.depth,
+        layout.bytes,
+        layout.offset0,
+        layout.offset1,
+        layout.offset2,
+    ]
+}
+
+// The layout that a descriptor tells. Answers 0.
+#[no_mangle]
+pub extern "C" fn imurraqi_descriptor_read(bytes: &[u8], layout: &mut [u8; 8]) -> i64
+    ensures answer { λ r. ⌜ r ≡ readNumber (readDescriptor (now (bytes .entry))) ⌝ }
+    ensures memory { λ _. ⌜ now (layout .exit) ≡ readLayout (readDescriptor (now (bytes .entry))) (now (layout .entry)) ⌝ }
+{
+    match descriptor::read(bytes) {
+        Reading::Accepted(accepted) => {
+            *layout = bytes_of(accepted);
+            0
+        }
+        Reading::Refused(number) => refused(number),
+    }
+}
+
+// Writes the descriptor of a layout. Answers 0.
+#[no_mangle]
+pub extern "C" fn imurraqi_descriptor_write(layout: &[u8; 8], out: &mut [u8]) -> i64
+    ensures answer { λ r. ⌜ r ≡ writtenNumber (writeAnswer (layoutOf (now (layout .entry))) (now (out .entry))) ⌝ }
+    ensures memory { λ _. ⌜ now (out .exit) ≡ writeOutput (layoutOf (now (layout .entry))) (now (out .entry)) ⌝ }
+{
+    match descriptor::write(layout_of(layout), out) {
+        Writing::Done => 0,
+        Writing::Refused(number) => refused(number),
+    }
 }
 
 // The float of a code. Answers 0 for a brightness, 1 for a difference.
@@ -49,4 +131,51 @@ pub extern "C" fn imurraqi_quantize(model: u8, range: u8, depth: u8, channel: u8
         Quantized::Code(code) => code as i64,
         Quantized::Refused(number) => refused(number),
     }
+}
+
+// Packs one point of three values. Answers 1.
+#[no_mangle]
+pub extern "C" fn imurraqi_encode_point(
+    layout: &[u8; 8],
+    channel0: f32,
+    channel1: f32,
+    channel2: f32,
+    out: &mut [u8],
+) -> i64
+    ensures answer { λ r. ⌜ r ≡ lineNumber (encodeAnswer (layoutOf (now (layout .entry))) (valuesOf channel0 channel1 channel2) (length (now (out .entry)))) ⌝ }
+    ensures memory { λ _. ⌜ now (out .exit) ≡ kept (encodeAnswer (layoutOf (now (layout .entry))) (valuesOf channel0 channel1 channel2) (length (now (out .entry)))) (now (out .entry)) (packedOf (layoutOf (now (layout .entry))) (quantizedOf (layoutOf (now (layout .entry))) (valuesOf channel0 channel1 channel2))) ⌝ }
+{
+    let point = Point {
+        channel0: channel0,
+        channel1: channel1,
+        channel2: channel2,
+    };
+    line_number(scanline::encode_point(layout_of(layout), point, out))
+}
+
+// Packs a line of values, three a point. Answers the count of points.
+#[no_mangle]
+pub extern "C" fn imurraqi_encode_line(layout: &[u8; 8], values: &[f32], out: &mut [u8]) -> i64
+    ensures answer { λ r. ⌜ r ≡ lineNumber (encodeAnswer (layoutOf (now (layout .entry))) (now (values .entry)) (length (now (out .entry)))) ⌝ }
+    ensures memory { λ _. ⌜ now (out .exit) ≡ kept (encodeAnswer (layoutOf (now (layout .entry))) (now (values .entry)) (length (now (out .entry)))) (now (out .entry)) (packedOf (layoutOf (now (layout .entry))) (quantizedOf (layoutOf (now (layout .entry))) (now (values .entry)))) ⌝ }
+{
+    line_number(scanline::encode_line(layout_of(layout), values, out))
+}
+
+// The codes of a line of points, three a point. Answers the count of points.
+#[no_mangle]
+pub extern "C" fn imurraqi_unpack_line(layout: &[u8; 8], packed: &[u8], out: &mut [u16]) -> i64
+    ensures answer { λ r. ⌜ r ≡ lineNumber (unpackAnswer (layoutOf (now (layout .entry))) (length (now (packed .entry))) (length (now (out .entry)))) ⌝ }
+    ensures memory { λ _. ⌜ now (out .exit) ≡ kept (unpackAnswer (layoutOf (now (layout .entry))) (length (now (packed .entry))) (length (now (out .entry)))) (now (out .entry)) (codesOf (layoutOf (now (layout .entry))) (now (packed .entry))) ⌝ }
+{
+    line_number(scanline::unpack_line(layout_of(layout), packed, out))
+}
+
+// Packs a line of codes, three a point. Answers the count of points.
+#[no_mangle]
+pub extern "C" fn imurraqi_pack_line(layout: &[u8; 8], codes: &[u16], out: &mut [u8]) -> i64
+    ensures answer { λ r. ⌜ r ≡ lineNumber (packAnswer (layoutOf (now (layout .entry))) (now (codes .entry)) (length (now (out .entry)))) ⌝ }
+    ensures memory { λ _. ⌜ now (out .exit) ≡ kept (packAnswer (layoutOf (now (layout .entry))) (now (codes .entry)) (length (now (out .entry)))) (now (out .entry)) (packedOf (layoutOf (now (layout .entry))) (now (codes .entry))) ⌝ }
+{
+    line_number(scanline::pack_line(layout_of(layout), codes, out))
 }

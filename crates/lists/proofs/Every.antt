@@ -11,10 +11,18 @@ use lib.Seq.{drop-cons}
 use Rattle.lists.specs.Lists.{every}
 use Rattle.lists.proofs.Tests.{and-left, and-right}
 
+and-assoc : (a b c : Bool) → a && (b && c) ≡ a && b && c
+and-assoc true b c = refl
+and-assoc false b c = refl
+
 module _ {A : Type 0} (p : A → Bool) (d : A) where
   at-front : (xs : List A) (i : ℕ) → i < length xs → every p (drop i xs) ≡ p (getD xs i d) && every p (drop (suc i) xs)
   unfolding every
   at-front xs i h = ap (every p) (drop-cons xs i d h)
+
+  -- a scan that keeps what it found in ok: element i, and then the rest
+  pub every-next : (ok : Bool) (xs : List A) (i : ℕ) → i < length xs → ok && every p (drop i xs) ≡ ok && p (getD xs i d) && every p (drop (i + 1) xs)
+  every-next ok xs i h = ap (λ (b : Bool). ok && b) (at-front xs i h ∙ ap (λ (k : ℕ). p (getD xs i d) && every p (drop k xs)) (sym (add-one i))) ∙ and-assoc ok (p (getD xs i d)) (every p (drop (i + 1) xs))
 
   -- element i passes: the rest decides
   pub every-rest : (xs : List A) (i : ℕ) → i < length xs → p (getD xs i d) ≡ true → every p (drop i xs) ≡ every p (drop (i + 1) xs)

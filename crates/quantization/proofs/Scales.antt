@@ -27,3 +27,11 @@ by-step Full Brightness n h = refl
 by-step Full Difference n h =
     let e : (topOf n + 1) / 2 ≡ 2 ^ (n - 1) = omega arith in
     rw e
+
+-- the ends that a code of the paper is clamped to
+pub ends : (r : Range) (k : Kind) (n : ℕ) → (scaleOf r n k .high ≡ topOf n) × (scaleOf r n k .low ≡ 0)
+unfolding scaleOf
+ends Narrow Brightness n = (refl, refl)
+ends Narrow Difference n = (refl, refl)
+ends Full Brightness n = (refl, refl)
+ends Full Difference n = (refl, refl)

@@ -20,6 +20,7 @@ use Rattle.quantization.specs.Scale.{scaleOf}
 use Rattle.quantization.specs.Value.{valueOf}
 use Rattle.quantization.specs.Code.{codeOfValue, codeOf}
 use Rattle.quantization.specs.Answer.{channelKnownAt, channelScale, named, dequantized, orRefused, quantized}
+use Rattle.quantization.proofs.Scales.{ends}
 use Rattle.quantization_laws.specs.Claims.{Dequantizes, Quantizes, QuantizesOthers, ZeroIsPlus, Returns, MarkedRight}
 use Rattle.quantization_laws.specs.Printed.{printedUnclamped}
 use Rattle.quantization_laws.specs.Pattern.{patternValue}
@@ -59,13 +60,6 @@ quantizes model range n channel bits e h =
     pass _ (ap not e)
     (ap orRefused (pattern-code (channelScale model range n channel) bits h)
     ∙ ap Code (code-printed (rangeOf range) (kindOf model channel) n (patternValue bits)))
-
-ends : (r : Range) (k : Kind) (n : ℕ) → (scaleOf r n k .high ≡ topOf n) × (scaleOf r n k .low ≡ 0)
-unfolding scaleOf
-ends Narrow Brightness n = (refl, refl)
-ends Narrow Difference n = (refl, refl)
-ends Full Brightness n = (refl, refl)
-ends Full Difference n = (refl, refl)
 
 pub quantizes-others : QuantizesOthers
 unfolding quantized codeOf

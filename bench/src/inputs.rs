@@ -1,0 +1,78 @@
+//! The lines that are measured: smooth ones, as in a picture, and random ones.
+
+use std::f32::consts::TAU;
+
+use crate::layout::Numbers;
+use crate::plain;
+
+pub const POINTS: usize = 4096;
+
+/// One line in its three forms.
+pub struct Line {
+    pub values: Vec<f32>,
+    pub codes: Vec<u16>,
+    pub packed: Vec<u8>,
+}
+
+/// Slow waves, a little beyond the range here and there, as Y'CbCr values: the
+/// first of three from 0 to 1, the others around 0. Codes and packed bytes are
+/// theirs.
+pub fn smooth(layout: Numbers) -> Line {
+    let values: Vec<f32> = (0..POINTS)
+        .flat_map(|point| {
+            let turn = TAU * point as f32 / POINTS as f32;
+            [
+                0.5 + 0.51 * (3.0 * turn).sin(),
+                0.4 * (5.0 * turn).cos(),
+                0.4 * (7.0 * turn).sin(),
+            ]
+        })
+        .collect();
+    let mut packed = vec![0; packed_length(layout)];
+    plain::encode_line(layout, &values, &mut packed);
+    let mut codes = vec![0; 3 * POINTS];
+    plain::unpack_line(layout, &packed, &mut codes);
+    Line {
+        values,
+        codes,
+        packed,
+    }
+}
+
+/// Floats of either sign from 2^-15 to 2, any codes, any bytes.
+pub fn random(layout: Numbers) -> Line {
+    let [_, _, _, depth, ..] = layout;
+    let mut random = Random(0x9e37_79b9_7f4a_7c15);
+    Line {
+        values: (0..3 * POINTS)
+            .map(|_| {
+                let bits = random.next();
+                let field = 112 + (bits >> 23) % 16;
+                f32::from_bits(bits & 0x807f_ffff | field << 23)
+            })
+            .collect(),
+        codes: (0..3 * POINTS)
+            .map(|_| (random.next() >> (32 - depth)) as u16)
+            .collect(),
+        packed: (0..packed_length(layout))
+            .map(|_| random.next() as u8)
+            .collect(),
+    }
+}
+
+pub fn packed_length(layout: Numbers) -> usize {
+    let [_, _, _, _, bytes, ..] = layout;
+    POINTS * usize::from(bytes)
+}
+
+/// Marsaglia's xorshift64, whose high half is used.
+struct Random(u64);
+
+impl Random {
+    fn next(&mut self) -> u32 {
+        self.0 ^= self.0 << 13;
+        self.0 ^= self.0 >> 7;
+        self.0 ^= self.0 << 17;
+        (self.0 >> 32) as u32
+    }
+}

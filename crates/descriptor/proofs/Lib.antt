@@ -1,0 +1,4 @@
+pub mod Right
+pub mod Answers
+pub mod Parts
+pub mod Examples

@@ -1,0 +1,57 @@
+-- The claims of specs/Claims.antt. Assumes nothing.
+use mathlib.Core.Path.{_≡_, refl, sym, ap, _∙_}
+use mathlib.Core.Bool.{Bool, true, false, not, cond}
+use mathlib.Core.List.{List}
+use Prim.Native.Nat.{ℕ}
+use native.Mathlib.Omega.{arith}
+use borrow.Author.Tests.{eq-eqb}
+use lib.Dec.{eqb}
+use lib.ListN.{length}
+use Rattle.layout.specs.declared.Layout.{Layout}
+use Rattle.layout.specs.Layout.{validLayout}
+use Rattle.descriptor.specs.declared.Reading.the-variants.{Accepted}
+use Rattle.descriptor.specs.declared.Writing.{Writing}
+use Rattle.descriptor.specs.declared.Writing.the-variants.{Done, Refused}
+use Rattle.descriptor.specs.Descriptor.{descriptorBytes, readDescriptor, writeAnswer, writeOutput}
+use Rattle.descriptor.proofs.Answers.{done, changed}
+use Rattle.descriptor_laws.specs.Claims.{Accepts, AcceptsNoOther, ReadsWhatWasWritten, WritesWhatWasRead, OneLayout, OneDescriptor}
+use Rattle.descriptor_laws.proofs.Written.{accepts}
+use Rattle.descriptor_laws.proofs.Read.{accepts-no-other}
+
+-- a layout that was written is valid
+written-valid : (l : Layout) (out : List ℕ) → writeAnswer l out ≡ Done → validLayout l ≡ true
+unfolding writeAnswer
+written-valid l out = go (validLayout l) (cond (not (eqb (length out) 76)) (Refused 13) Done)
+  where
+    go : (t : Bool) (y : Writing) → cond (not t) (Refused 9) y ≡ Done → t ≡ true
+    go true y e = refl
+    go false y e = let z : _≡_ {A = ℕ} 0 1 = cc in absurd (omega arith)
+
+-- what it left
+written-is : (l : Layout) (out : List ℕ) → writeAnswer l out ≡ Done → writeOutput l out ≡ descriptorBytes l
+written-is l out e = sym (changed l out (descriptorBytes l) (sym e) refl)
+
+-- the layout that is accepted is one
+same-layout : (l m : Layout) → Accepted l ≡ Accepted m → l ≡ m
+same-layout l m e = cc
+
+pub descriptor-accepted : Accepts
+descriptor-accepted = accepts
+
+pub no-other-accepted : AcceptsNoOther
+no-other-accepted = accepts-no-other
+
+pub reads-what-was-written : ReadsWhatWasWritten
+reads-what-was-written l out e = ap readDescriptor (written-is l out e) ∙ accepts l (written-valid l out e)
+
+pub writes-what-was-read : WritesWhatWasRead
+writes-what-was-read b l out e h n =
+    let q = accepts-no-other b l e h in
+    let d = sym (done l out (q .0) (eq-eqb (length out) 76 n)) in
+    (d, written-is l out d ∙ sym (q .1))
+
+pub one-layout : OneLayout
+one-layout l m v w e = same-layout l m (sym (accepts l v) ∙ ap readDescriptor e ∙ accepts m w)
+
+pub one-descriptor : OneDescriptor
+one-descriptor b c l eb ec hb hc = accepts-no-other b l eb hb .1 ∙ sym (accepts-no-other c l ec hc .1)

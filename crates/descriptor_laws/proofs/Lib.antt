@@ -1,0 +1,6 @@
+pub mod Claims
+mod Order
+mod Samples
+mod Written
+mod Named
+mod Read

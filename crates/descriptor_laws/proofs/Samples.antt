@@ -1,0 +1,165 @@
+-- The samples of a layout: what each says, and that they are right, state the layout's range and name its offsets. Assumes nothing.
+use mathlib.Core.Path.{_≡_, refl, sym, ap, ap₂, _∙_, subst}
+use mathlib.Core.Bool.{true, false, _&&_}
+use mathlib.Core.Logic.{inl, inr}
+use Prim.Native.Nat.{ℕ, _+_, _-_, _*_, _≤_}
+use native.Mathlib.Omega.{arith}
+use borrow.Author.Tests.{eqb-true, leb-true, eq-eqb, ne-eqb, le-leb}
+use lib.Dec.{eqb, leb}
+use Rattle.lists.proofs.Tests.{or-cases, pass, stop}
+use Rattle.layout.specs.declared.Layout.{Layout}
+use Rattle.layout.specs.declared.range.Range.{Range}
+use Rattle.layout.specs.declared.range.Range.the-variants.{Narrow, Full}
+use Rattle.layout.specs.Layout.{rangeOf, depthKnown, stepOf, kindOf, apart}
+use Rattle.layout.proofs.Depths.{steps}
+use Rattle.layout.proofs.Facts.{Valid}
+use Rattle.descriptor.specs.declared.sample.Sample.{Sample}
+use Rattle.descriptor.specs.declared.sample.Samples.{Samples}
+use Rattle.descriptor.specs.Sample.{lowerOf, upperOf, states, allState, rangeIn, sampleOf, samplesOf, eachOnce, samplesRight, offsetIn}
+use Rattle.descriptor.proofs.Right.{Right}
+use Rattle.descriptor_laws.proofs.Order.{three, rising-by, rising-all}
+
+-- all that a sample of a layout says but its channel and offset
+pub record Of (l : Layout) (s : Sample) : Type 0 where
+  pub length : s .length ≡ l .depth - 1
+  pub position : s .position ≡ 0
+  pub lower : s .lower ≡ lowerOf (rangeOf (l .range)) (l .depth)
+  pub upper : s .upper ≡ upperOf (rangeOf (l .range)) (l .depth) (kindOf (l .model) (s .channel))
+
+of-sample : (l : Layout) (channel offset : ℕ) → Of l (sampleOf l channel offset)
+unfolding sampleOf
+of-sample l channel offset = record { length = refl; position = refl; lower = refl; upper = refl }
+
+pub of-samples : (l : Layout) → Of l (samplesOf l .first) × Of l (samplesOf l .second) × Of l (samplesOf l .third)
+unfolding samplesOf
+of-samples l =
+    rising-all (Of l) (sampleOf l 0 (l .offset0)) (sampleOf l 1 (l .offset1)) (sampleOf l 2 (l .offset2))
+    (of-sample l 0 (l .offset0)) (of-sample l 1 (l .offset1)) (of-sample l 2 (l .offset2))
+
+-- ---- right
+
+-- the facts give the tests
+pub says-right : (bytes : ℕ) (s : Samples) → Right bytes s → samplesRight bytes s ≡ true
+unfolding samplesRight
+says-right bytes s r =
+    let n = s .first .length + 1 in
+    rw (
+      r .depth,
+      eq-eqb (s .second .length) (s .first .length) (r .second-length),
+      eq-eqb (s .third .length) (s .first .length) (r .third-length),
+      eq-eqb (s .first .position) 0 (r .first-position),
+      eq-eqb (s .second .position) 0 (r .second-position),
+      eq-eqb (s .third .position) 0 (r .third-position),
+      r .channels,
+      le-leb (s .first .offset + n) (s .second .offset) (r .first-below),
+      le-leb (s .second .offset + n) (s .third .offset) (r .second-below),
+      le-leb (s .third .offset + n) (8 * bytes) (r .third-inside),
+    )
+
+-- fields that do not overlap, the first not above the second
+below : (x y n : ℕ) → apart x y n ≡ true → 1 ≤ n → x ≤ y → x + n ≤ y
+below x y n e h le = elim (or-cases (leb (x + n) y) (leb (y + n) x) e) [
+  | inl q ↦ leb-true (x + n) y q
+  | inr q ↦ (let z = leb-true (y + n) x q in omega arith)
+]
+
+-- or the second not above the first
+above : (x y n : ℕ) → apart x y n ≡ true → 1 ≤ n → y ≤ x → y + n ≤ x
+above x y n e h le = elim (or-cases (leb (x + n) y) (leb (y + n) x) e) [
+  | inl q ↦ (let z = leb-true (x + n) y q in omega arith)
+  | inr q ↦ leb-true (y + n) x q
+]
+
+module _ (l : Layout) (v : Valid l) where
+  depth-again : l .depth - 1 + 1 ≡ l .depth
+  depth-again = omega (arith, v .depth-least)
+
+  depth-known : depthKnown (l .depth - 1 + 1) ≡ true
+  depth-known = ap depthKnown depth-again ∙ v .depth
+
+  -- in one order
+  right-three : (c d e x y z : ℕ) → eachOnce c d e ≡ true → x + l .depth ≤ y → y + l .depth ≤ z → z + l .depth ≤ 8 * l .bytes
+      → Right (l .bytes) (three (sampleOf l c x) (sampleOf l d y) (sampleOf l e z))
+  unfolding sampleOf
+  right-three c d e x y z once h i j =
+      let q = depth-again in
+      record {
+        depth = depth-known;
+        second-length = refl;
+        third-length = refl;
+        first-position = refl;
+        second-position = refl;
+        third-position = refl;
+        channels = once;
+        first-below = omega arith;
+        second-below = omega arith;
+        third-inside = omega arith;
+      }
+
+  pub right-samples : samplesRight (l .bytes) (samplesOf l) ≡ true
+  unfolding samplesOf sampleOf
+  right-samples =
+      let n = l .depth in
+      let least : 1 ≤ n = omega (arith, v .depth-least) in
+      let x = l .offset0 in
+      let y = l .offset1 in
+      let z = l .offset2 in
+      says-right (l .bytes) (samplesOf l)
+      (rising-by (Right (l .bytes)) (sampleOf l 0 x) (sampleOf l 1 y) (sampleOf l 2 z)
+      (λ h i. right-three 0 1 2 x y z refl (below x y n (v .apart01) least h) (below y z n (v .apart12) least i) (v .inside2))
+      (λ h i. right-three 0 2 1 x z y refl (below x z n (v .apart02) least h) (above y z n (v .apart12) least i) (v .inside1))
+      (λ h i. right-three 2 0 1 z x y refl (above x z n (v .apart02) least h) (below x y n (v .apart01) least i) (v .inside1))
+      (λ h i. right-three 1 0 2 y x z refl (above x y n (v .apart01) least h) (below x z n (v .apart02) least i) (v .inside2))
+      (λ h i. right-three 1 2 0 y z x refl (below y z n (v .apart12) least h) (above x z n (v .apart02) least i) (v .inside0))
+      (λ h i. right-three 2 1 0 z y x refl (above y z n (v .apart12) least h) (above x y n (v .apart01) least i) (v .inside0)))
+
+  -- ---- the range
+
+  states-own : (s : Sample) → Of l s → states (l .model) (rangeOf (l .range)) (l .depth) s ≡ true
+  unfolding states
+  states-own s o =
+      ap₂ _&&_ (eq-eqb (s .lower) (lowerOf (rangeOf (l .range)) (l .depth)) (o .lower))
+      (eq-eqb (s .upper) (upperOf (rangeOf (l .range)) (l .depth) (kindOf (l .model) (s .channel))) (o .upper))
+
+  all-own : allState (l .model) (rangeOf (l .range)) (l .depth) (samplesOf l) ≡ true
+  unfolding allState
+  all-own =
+      let o = of-samples l in
+      ap₂ _&&_ (ap₂ _&&_ (states-own (samplesOf l .first) (o .0)) (states-own (samplesOf l .second) (o .1))) (states-own (samplesOf l .third) (o .2))
+
+  first-depth : samplesOf l .first .length + 1 ≡ l .depth
+  first-depth = ap (λ (k : ℕ). k + 1) (of-samples l .0 .length) ∙ depth-again
+
+  -- a full range's lower number is no narrow one
+  full-not-narrow : rangeOf (l .range) ≡ Full → allState (l .model) Narrow (l .depth) (samplesOf l) ≡ false
+  unfolding allState states
+  full-not-narrow e =
+      let s = samplesOf l .first in
+      let zero-lower : s .lower ≡ 0 = of-samples l .0 .lower ∙ ap (λ (r : Range). lowerOf r (l .depth)) e in
+      let t = steps (l .depth) (v .depth-least) (v .depth-most) in
+      let differs : eqb (s .lower) (16 * stepOf (l .depth)) ≡ false = ne-eqb (s .lower) (16 * stepOf (l .depth)) (λ q. omega (arith, t .least)) in
+      rw differs
+
+  pub range-samples : rangeIn (l .model) (samplesOf l) ≡ l .range
+  unfolding rangeIn
+  range-samples = elim (or-cases (eqb (l .range) 1) (eqb (l .range) 2) (v .range)) [
+    | inl q ↦
+        (let e = eqb-true (l .range) 1 q in
+        let own = subst (λ (r : ℕ). allState (l .model) (rangeOf r) (l .depth) (samplesOf l) ≡ true) e all-own in
+        stop _ (ap (λ (n : ℕ). allState (l .model) Narrow n (samplesOf l)) first-depth ∙ own) ∙ sym e)
+    | inr q ↦
+        (let e = eqb-true (l .range) 2 q in
+        let own = subst (λ (r : ℕ). allState (l .model) (rangeOf r) (l .depth) (samplesOf l) ≡ true) e all-own in
+        pass _ (ap (λ (n : ℕ). allState (l .model) Narrow n (samplesOf l)) first-depth ∙ full-not-narrow (ap rangeOf e))
+        (stop _ (ap (λ (n : ℕ). allState (l .model) Full n (samplesOf l)) first-depth ∙ own)) ∙ sym e)
+  ]
+
+-- ---- the offsets
+
+pub offsets : (l : Layout) → (offsetIn (samplesOf l) 0 ≡ l .offset0) × (offsetIn (samplesOf l) 1 ≡ l .offset1) × (offsetIn (samplesOf l) 2 ≡ l .offset2)
+unfolding samplesOf sampleOf offsetIn
+offsets l =
+    rising-by (λ (s : Samples). (offsetIn s 0 ≡ l .offset0) × (offsetIn s 1 ≡ l .offset1) × (offsetIn s 2 ≡ l .offset2))
+    (sampleOf l 0 (l .offset0)) (sampleOf l 1 (l .offset1)) (sampleOf l 2 (l .offset2))
+    (λ h i. (refl, refl, refl)) (λ h i. (refl, refl, refl)) (λ h i. (refl, refl, refl))
+    (λ h i. (refl, refl, refl)) (λ h i. (refl, refl, refl)) (λ h i. (refl, refl, refl))

@@ -1,0 +1,43 @@
+-- What is claimed of descriptors, of the definitions that the contracts of `descriptor::read` and `descriptor::write` cite. proofs/Claims.antt proves each. Assumes nothing.
+use Prim.Native.Nat.{ℕ}
+use mathlib.Core.Bool.{true}
+use mathlib.Core.Path.{_≡_}
+use mathlib.Core.List.{List}
+use lib.Dec.{ltb}
+use lib.ListN.{length}
+use Rattle.lists.specs.Lists.{every}
+use Rattle.layout.specs.declared.Layout.{Layout}
+use Rattle.layout.specs.Layout.{validLayout}
+use Rattle.descriptor.specs.declared.Reading.the-variants.{Accepted}
+use Rattle.descriptor.specs.declared.Writing.the-variants.{Done}
+use Rattle.descriptor.specs.Descriptor.{descriptorBytes, readDescriptor, writeAnswer, writeOutput}
+
+-- every element is a byte
+abbrev pub Bytes : List ℕ → Type 0
+Bytes b = every (λ x. ltb x 256) b ≡ true
+
+-- the descriptor of a valid layout is accepted, and tells the layout
+abbrev pub Accepts : Type 0
+Accepts = (l : Layout) → validLayout l ≡ true → readDescriptor (descriptorBytes l) ≡ Accepted l
+
+-- and nothing else is: bytes that are accepted tell a valid layout, and are its descriptor
+abbrev pub AcceptsNoOther : Type 0
+AcceptsNoOther = (b : List ℕ) (l : Layout) → Bytes b → readDescriptor b ≡ Accepted l → (validLayout l ≡ true) × (b ≡ descriptorBytes l)
+
+-- what writing a layout left is read as that layout
+abbrev pub ReadsWhatWasWritten : Type 0
+ReadsWhatWasWritten = (l : Layout) (out : List ℕ) → writeAnswer l out ≡ Done → readDescriptor (writeOutput l out) ≡ Accepted l
+
+-- writing a layout that was read leaves the bytes that were read
+abbrev pub WritesWhatWasRead : Type 0
+WritesWhatWasRead =
+    (b : List ℕ) (l : Layout) (out : List ℕ) → Bytes b → readDescriptor b ≡ Accepted l → length out ≡ 76
+    → (writeAnswer l out ≡ Done) × (writeOutput l out ≡ b)
+
+-- two valid layouts with one descriptor are one layout
+abbrev pub OneLayout : Type 0
+OneLayout = (l m : Layout) → validLayout l ≡ true → validLayout m ≡ true → descriptorBytes l ≡ descriptorBytes m → l ≡ m
+
+-- two accepted descriptors that tell one layout are one descriptor
+abbrev pub OneDescriptor : Type 0
+OneDescriptor = (b c : List ℕ) (l : Layout) → Bytes b → Bytes c → readDescriptor b ≡ Accepted l → readDescriptor c ≡ Accepted l → b ≡ c

@@ -1,0 +1,6 @@
+pub mod Points
+pub mod Packs
+pub mod Joins
+mod Answers
+mod Masks
+mod Encodes

@@ -1,0 +1,69 @@
+-- `scanline::encode::points5` meets its contract: each turn fills in one point's bytes. Assumes nothing.
+use mathlib.Core.Path.{_∙_}
+use Prim.Native.Nat.{_*_, _≤_, _-_}
+use native.Mathlib.Omega.{arith}
+use Rattle.lists.proofs.Filled.{Filled, filled-none, filled-length}
+use Rattle.scanline.specs.Line.{packedByte}
+use Rattle.scanline.specs.Encode.{quantizedOf}
+use Rattle.scanline.proofs.Encodes.{length-quantized}
+use Rattle.scanline.proofs.Packs.{bytes-more, bytes-all}
+use Rattle.scanline.proofs.encode.points5.Statement.{statement}
+use Rattle.scanline.proofs.encode.points5.Tie as tie
+
+abbrev Inv-loop : tie.InvT-loop
+Inv-loop layout scales values out₀ n i₀ out i = (i ≤ n) × Filled out₀ (packedByte layout (quantizedOf layout values)) (5 * i) out
+
+abbrev μ-loop : tie.MeasureT-loop
+μ-loop layout scales values out₀ n i₀ out i = n - i
+
+loop-holds : tie.Need-loop-holds Inv-loop μ-loop
+loop-holds c = (omega arith, filled-none)
+
+mul-store5 : tie.Need-mul-store5 Inv-loop μ-loop
+mul-store5 c = omega arith
+
+joined64-requires : tie.Need-joined64-requires Inv-loop μ-loop
+joined64-requires c κs =
+    let s = c .before .before .before .before .before in
+    (s .pre .0 .0, (s .pre .0 .2, omega arith))
+
+store5-requires : tie.Need-store5-requires Inv-loop μ-loop
+store5-requires c κs = omega (arith, filled-length (c .before .before .before .loop .inv .1))
+
+add-i : tie.Need-add-i Inv-loop μ-loop
+add-i c = omega arith
+
+loop-less : tie.Need-loop-less Inv-loop μ-loop
+loop-less c = omega arith
+
+loop-again : tie.Need-loop-again Inv-loop μ-loop
+loop-again c =
+    let s = c .before .before .before .before .before .before .before .before .before in
+    let l = c .before .before .before .before .before .before .loop in
+    let v = c .before .before .before .joined64 in
+    (omega arith, bytes-more (s .args .layout) (quantizedOf (s .args .layout) (s .args .values .now)) 5 (s .pre .0 .1) (s .args .out .now) _ _ (l .i) (v .result) (v .ensures) (omega arith) (l .inv .1) (c .before .before .store5 .ensures))
+
+same-length : tie.Need-same-length Inv-loop μ-loop
+same-length c = filled-length (c .before .loop .inv .1)
+
+returns : tie.Need-returns Inv-loop μ-loop
+returns c =
+    let s = c .before .before .before .before in
+    let l = c .before .loop in
+    bytes-all (s .args .layout) (quantizedOf (s .args .layout) (s .args .values .now)) 5 (s .pre .0 .1) (s .args .out .now) _ (l .i) (s .args .n) (length-quantized (s .args .layout) (s .args .values .now) ∙ s .pre .1 .0) (s .pre .1 .1) (omega arith) (omega arith) (l .inv .1)
+
+pub points5-spec : {M : Type 1} → statement M
+points5-spec =
+    tie.close
+    (tie.spec
+    Inv-loop
+    μ-loop
+    loop-holds
+    mul-store5
+    joined64-requires
+    store5-requires
+    add-i
+    loop-less
+    loop-again
+    same-length
+    returns)

@@ -1,0 +1,5 @@
+mod Bits
+mod Cleared
+mod Back
+mod Whole
+pub mod Claims

@@ -1,0 +1,19 @@
+-- The bits of a packed line that no field uses: document 01, "Layout". Assumes nothing.
+use Prim.Native.Nat.{ℕ, _%_}
+use mathlib.Core.List.{List}
+use lib.Bits.{bitAnd}
+use lib.ListN.{length, getD}
+use Rattle.lists.specs.Lists.{tabulate}
+use Rattle.lists.specs.Bytes.{byteOf}
+use Rattle.layout.specs.declared.Layout.{Layout}
+use Rattle.layout.specs.Layout.{topOf}
+use Rattle.scanline.specs.Point.{inPlace}
+
+-- the bits that the three fields use: ones in each field, and zeros elsewhere
+unfoldable pub usedBits : Layout → ℕ
+usedBits l = inPlace l (topOf (l .depth)) (topOf (l .depth)) (topOf (l .depth))
+
+-- a packed line with its unused bits cleared, and nothing else changed
+unfoldable pub cleared : Layout → List ℕ → List ℕ
+unfolding usedBits
+cleared l s = tabulate (length s) (λ k. bitAnd (getD s k 0) (byteOf (usedBits l) (k % l .bytes)))

@@ -1,0 +1,110 @@
+//! Lines of points: packed bytes, codes and floats.
+//!
+//! Each function makes its whole output before it stores any of it, so nothing
+//! is written on a refusal.
+
+use crate::layout::Layout;
+use crate::quantization;
+use crate::refusal::Refusal;
+
+const MOST_POINTS: usize = 4096;
+
+/// Fills `codes` from packed points, three codes a point. Answers the count of
+/// points, as the other lines do.
+pub fn unpack_line(layout: [u8; 8], packed: &[u8], codes: &mut [u16]) -> Result<usize, Refusal> {
+    let layout = Layout::new(layout)?;
+    let count = count(layout, packed.len(), codes.len())?;
+    let output: Vec<u16> = packed
+        .chunks(layout.point_bytes())
+        .flat_map(|bytes| fields(layout, number(bytes)))
+        .collect();
+    codes.copy_from_slice(&output);
+    Ok(count)
+}
+
+/// Fills `packed` with the points that hold these codes.
+pub fn pack_line(layout: [u8; 8], codes: &[u16], packed: &mut [u8]) -> Result<usize, Refusal> {
+    let layout = Layout::new(layout)?;
+    let count = count(layout, packed.len(), codes.len())?;
+    if codes
+        .iter()
+        .any(|&code| u64::from(code) > layout.greatest_code())
+    {
+        return Err(Refusal::CodeTooHigh);
+    }
+    packed.copy_from_slice(&points(layout, codes));
+    Ok(count)
+}
+
+/// Fills `packed` with the points that hold the codes of these floats, which are
+/// given by their bits.
+pub fn encode_line(layout: [u8; 8], values: &[u32], packed: &mut [u8]) -> Result<usize, Refusal> {
+    let layout = Layout::new(layout)?;
+    let count = count(layout, packed.len(), values.len())?;
+    let scales = [0, 1, 2].map(|channel| layout.scale(channel));
+    let codes = values
+        .iter()
+        .zip(scales.iter().cycle())
+        .map(|(&bits, &scale)| quantization::code(scale, bits))
+        .collect::<Result<Vec<u16>, Refusal>>()?;
+    packed.copy_from_slice(&points(layout, &codes));
+    Ok(count)
+}
+
+/// As a line of exactly one point; any other length is refused.
+pub fn encode_point(
+    layout: [u8; 8],
+    values: [u32; 3],
+    packed: &mut [u8],
+) -> Result<usize, Refusal> {
+    encode_line(layout, &values, packed)
+}
+
+/// The count of points, for a line with so many packed bytes and, on its other
+/// side, so many codes or floats.
+fn count(layout: Layout, packed_bytes: usize, elements: usize) -> Result<usize, Refusal> {
+    let count = packed_bytes / layout.point_bytes();
+    let whole = packed_bytes.is_multiple_of(layout.point_bytes());
+    if whole && count <= MOST_POINTS && elements == 3 * count {
+        Ok(count)
+    } else {
+        Err(Refusal::Length)
+    }
+}
+
+/// The packed points that hold these codes, three a point.
+fn points(layout: Layout, codes: &[u16]) -> Vec<u8> {
+    codes
+        .chunks(3)
+        .flat_map(|codes| bytes(layout, point(layout, codes)))
+        .collect()
+}
+
+/// The number whose fields are the codes and whose other bits are zero.
+fn point(layout: Layout, codes: &[u16]) -> u64 {
+    codes
+        .iter()
+        .zip(layout.offsets)
+        .map(|(&code, offset)| u64::from(code) << offset)
+        .sum()
+}
+
+/// The codes in a point's fields, in channel order.
+fn fields(layout: Layout, point: u64) -> [u16; 3] {
+    layout
+        .offsets
+        .map(|offset| (point >> offset & layout.greatest_code()) as u16)
+}
+
+/// The little-endian number of a point's bytes.
+fn number(bytes: &[u8]) -> u64 {
+    bytes
+        .iter()
+        .rev()
+        .fold(0, |number, &byte| number << 8 | u64::from(byte))
+}
+
+/// The bytes of a point, from the lowest.
+fn bytes(layout: Layout, point: u64) -> impl Iterator<Item = u8> {
+    (0..layout.point_bytes()).map(move |place| (point >> (8 * place)) as u8)
+}

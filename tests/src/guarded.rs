@@ -1,0 +1,91 @@
+//! Output memory whose every element is known before a call.
+
+use std::fmt::Debug;
+
+const GUARD_BYTES: usize = 16;
+
+/// An output among guards of 16 bytes, so that a write beside it is seen.
+#[derive(Clone, PartialEq)]
+pub struct Guarded<T> {
+    memory: Vec<T>,
+}
+
+/// What an element holds before a call.
+pub trait Element: Copy + PartialEq + Debug {
+    fn at(place: usize) -> Self;
+}
+
+/// Bytes that differ from their neighbours and have bits of every place set.
+impl Element for u8 {
+    fn at(place: usize) -> u8 {
+        (place as u8).wrapping_mul(37) ^ 0xa5
+    }
+}
+
+/// Numbers that are codes of no depth.
+impl Element for u16 {
+    fn at(place: usize) -> u16 {
+        0xa000 | place as u16 & 0x0fff
+    }
+}
+
+impl<T: Element> Guarded<T> {
+    const GUARD: usize = GUARD_BYTES / size_of::<T>();
+
+    pub fn new(length: usize) -> Guarded<T> {
+        Guarded {
+            memory: (0..length + 2 * Self::GUARD).map(T::at).collect(),
+        }
+    }
+
+    pub fn length(&self) -> usize {
+        self.memory.len() - 2 * Self::GUARD
+    }
+
+    pub fn output(&mut self) -> &mut [T] {
+        let length = self.length();
+        &mut self.memory[Self::GUARD..][..length]
+    }
+
+    /// The output and the guard after it.
+    pub fn output_and_beyond(&mut self) -> &mut [T] {
+        &mut self.memory[Self::GUARD..]
+    }
+
+    /// A pointer to the output. It is taken from the whole memory, so that the
+    /// guards may be read afterwards even if the library has written to them.
+    pub fn pointer(&mut self) -> *mut T {
+        self.memory.as_mut_ptr().wrapping_add(Self::GUARD)
+    }
+}
+
+/// What a call answers, and the memory as the call leaves it.
+#[derive(PartialEq)]
+pub struct Outcome<T> {
+    pub answer: i64,
+    pub output: Guarded<T>,
+}
+
+impl<T: Element> Outcome<T> {
+    /// The outcome of a call with an output of this length.
+    pub fn of(length: usize, call: impl FnOnce(&mut Guarded<T>) -> i64) -> Outcome<T> {
+        let mut output = Guarded::new(length);
+        let answer = call(&mut output);
+        Outcome { answer, output }
+    }
+
+    /// The answers, and the first elements that differ.
+    pub fn unlike(&self, expected: &Outcome<T>) -> String {
+        let answers = format!("answer {}, must be {}", self.answer, expected.answer);
+        let pairs = self.output.memory.iter().zip(&expected.output.memory);
+        let mut places = (0..).zip(pairs);
+        match places.find(|(_, (element, must_be))| element != must_be) {
+            None => answers,
+            Some((place, (element, must_be))) => {
+                // Elements of the guard before the output have places under zero.
+                let place: i64 = place - Guarded::<T>::GUARD as i64;
+                format!("{answers}; element {place} is {element:x?}, must be {must_be:x?}")
+            }
+        }
+    }
+}

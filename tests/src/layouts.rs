@@ -1,0 +1,170 @@
+//! The layouts that lines and descriptors are tried with.
+
+use crate::library::Layout;
+
+/// The places of a layout's numbers.
+pub const MODEL: usize = 0;
+pub const PRIMARIES: usize = 1;
+pub const RANGE: usize = 2;
+pub const DEPTH: usize = 3;
+pub const BYTES: usize = 4;
+pub const OFFSETS: usize = 5;
+
+/// Bytes a point, depth, and three offsets.
+#[derive(Clone, Copy, PartialEq)]
+struct Shape {
+    bytes: u8,
+    depth: u8,
+    offsets: [u8; 3],
+}
+
+/// Model, primaries and range.
+type Colors = [u8; 3];
+
+/// Every layout there is, but for models, primaries and ranges, which take turns.
+pub fn every() -> impl Iterator<Item = Layout> {
+    sizes()
+        .flat_map(|(bytes, depth)| {
+            triples(8 * bytes - depth).map(move |offsets| Shape {
+                bytes,
+                depth,
+                offsets,
+            })
+        })
+        .filter(|&shape| fields_apart(shape))
+        .zip(colors().cycle())
+        .map(layout)
+}
+
+/// Some layouts of each size and depth, in all orders of the channels: without
+/// gaps from bit 0 and up to the very top, and with gaps between the fields, below
+/// them and above them. Models, primaries and ranges take turns.
+pub fn chosen() -> impl Iterator<Item = Layout> {
+    chosen_shapes().zip(colors().cycle()).map(layout)
+}
+
+/// The chosen layouts with every model, primaries and range.
+pub fn chosen_in_all_colors() -> impl Iterator<Item = Layout> {
+    chosen_shapes().flat_map(|shape| colors().map(move |colors| layout((shape, colors))))
+}
+
+/// One layout of each size and depth: gaps wherever there are bits for them, and
+/// the channels in an order of their own.
+pub fn one_of_each_size() -> impl Iterator<Item = Layout> {
+    sizes()
+        .map(|(bytes, depth)| {
+            let [low, middle, high] = with_gaps(bytes, depth);
+            Shape {
+                bytes,
+                depth,
+                offsets: [middle, high, low],
+            }
+        })
+        .zip(colors().step_by(3).cycle())
+        .map(layout)
+}
+
+/// The layout with each of its numbers in turn at each of its 256 values: with
+/// overlaps, with fields past the end, with every number out of range.
+pub fn changed(layout: Layout) -> impl Iterator<Item = Layout> {
+    (0..layout.len()).flat_map(move |place| {
+        (0..=u8::MAX).map(move |number| {
+            let mut changed = layout;
+            changed[place] = number;
+            changed
+        })
+    })
+}
+
+pub fn bytes_a_point(layout: Layout) -> usize {
+    usize::from(layout[BYTES])
+}
+
+/// The sizes of points with the depths for which they have bits enough.
+fn sizes() -> impl Iterator<Item = (u8, u8)> {
+    (3..=8).flat_map(|bytes| {
+        [8, 10, 12]
+            .into_iter()
+            .filter(move |depth| 3 * depth <= 8 * bytes)
+            .map(move |depth| (bytes, depth))
+    })
+}
+
+fn chosen_shapes() -> impl Iterator<Item = Shape> {
+    let mut shapes = Vec::new();
+    for (bytes, depth) in sizes() {
+        let top = 8 * bytes - depth;
+        let rising = [
+            [0, depth, 2 * depth],
+            [top - 2 * depth, top - depth, top],
+            [0, top / 2, top],
+            with_gaps(bytes, depth),
+        ];
+        for [low, middle, high] in rising {
+            for offsets in orders(low, middle, high) {
+                let shape = Shape {
+                    bytes,
+                    depth,
+                    offsets,
+                };
+                // With few unused bits or none, some of these are the same.
+                if !shapes.contains(&shape) {
+                    shapes.push(shape);
+                }
+            }
+        }
+    }
+    shapes.into_iter()
+}
+
+/// Rising offsets with a quarter of the unused bits before each field.
+fn with_gaps(bytes: u8, depth: u8) -> [u8; 3] {
+    let unused = 8 * bytes - 3 * depth;
+    [unused / 4, unused / 2 + depth, unused * 3 / 4 + 2 * depth]
+}
+
+/// All threes of numbers up to a greatest one.
+fn triples(greatest: u8) -> impl Iterator<Item = [u8; 3]> {
+    (0..=greatest).flat_map(move |first| {
+        (0..=greatest)
+            .flat_map(move |second| (0..=greatest).map(move |third| [first, second, third]))
+    })
+}
+
+/// All orders of three.
+fn orders(a: u8, b: u8, c: u8) -> [[u8; 3]; 6] {
+    [
+        [a, b, c],
+        [a, c, b],
+        [b, a, c],
+        [b, c, a],
+        [c, a, b],
+        [c, b, a],
+    ]
+}
+
+/// The sixteen combinations of models, primaries and ranges.
+fn colors() -> impl Iterator<Item = Colors> + Clone {
+    (0..16).map(|turn| [1 + turn % 2, 1 + turn / 2 % 4, 1 + (turn / 8 + turn) % 2])
+}
+
+fn layout((shape, [model, primaries, range]): (Shape, Colors)) -> Layout {
+    let [first, second, third] = shape.offsets;
+    [
+        model,
+        primaries,
+        range,
+        shape.depth,
+        shape.bytes,
+        first,
+        second,
+        third,
+    ]
+}
+
+fn fields_apart(shape: Shape) -> bool {
+    let [first, second, third] = shape.offsets;
+    [[first, second], [first, third], [second, third]]
+        .into_iter()
+        .all(|[one, other]| one.abs_diff(other) >= shape.depth)
+}

@@ -1,0 +1,149 @@
+//! Lines of points: one comparison of each function with the reference, and the
+//! parts that choose what to compare.
+
+use reference::lines;
+use reference::refusal::Refusal;
+
+use crate::guarded::{Guarded, Outcome};
+use crate::layouts::bytes_a_point;
+use crate::library::{Layout, Library};
+use crate::part::{part, Part};
+use crate::quantization::refused;
+use crate::tally::{Flow, Tally};
+
+mod examples;
+mod inputs;
+mod lengths;
+mod refusals;
+mod shapes;
+mod values;
+
+/// The parts that try a library, the quick ones first: most wrong programs are
+/// caught by them.
+pub const PARTS: &[Part] = &[
+    part("lines, worked out by hand", examples::worked_out),
+    part("unpack and pack, there and back", shapes::there_and_back),
+    part("lines, short lengths", lengths::short_lines),
+    part("encode a point, lengths", lengths::points),
+    part("pack, greatest codes and above", values::codes),
+    part("encode, not-a-numbers", values::not_a_numbers),
+    part("encode, ties and exponents", values::ties_and_exponents),
+    part("lines, layouts outside", refusals::layouts_outside),
+    part("lines, beyond 4,096 points", lengths::too_many_points),
+    part("encode, infinities", values::infinities),
+    part("lines, 4,096 points", shapes::long_lines),
+    part("lines, lengths around 4,096", lengths::long_lines),
+    part("lines, every layout", shapes::every_layout),
+];
+
+const MOST_POINTS: usize = 4096;
+
+pub fn expected_unpack_line(layout: Layout, packed: &[u8], codes: &mut Guarded<u16>) -> i64 {
+    answer(lines::unpack_line(layout, packed, codes.output()))
+}
+
+pub fn expected_pack_line(layout: Layout, codes: &[u16], packed: &mut Guarded<u8>) -> i64 {
+    answer(lines::pack_line(layout, codes, packed.output()))
+}
+
+pub fn expected_encode_line(layout: Layout, values: &[f32], packed: &mut Guarded<u8>) -> i64 {
+    let bits: Vec<u32> = values.iter().map(|value| value.to_bits()).collect();
+    answer(lines::encode_line(layout, &bits, packed.output()))
+}
+
+pub fn expected_encode_point(layout: Layout, values: [f32; 3], packed: &mut Guarded<u8>) -> i64 {
+    let bits = values.map(f32::to_bits);
+    answer(lines::encode_point(layout, bits, packed.output()))
+}
+
+/// A count or refusal as the C interface answers it.
+pub fn answer(result: Result<usize, Refusal>) -> i64 {
+    match result {
+        Ok(count) => count as i64,
+        Err(refusal) => refused(refusal),
+    }
+}
+
+fn compare_unpack_line(
+    library: &Library,
+    tally: &mut Tally,
+    layout: Layout,
+    packed: &[u8],
+    length: usize,
+) -> Flow {
+    let outcome = Outcome::of(length, |out| (library.unpack_line)(layout, packed, out));
+    let expected = Outcome::of(length, |out| expected_unpack_line(layout, packed, out));
+    tally.compare(outcome == expected, || {
+        format!(
+            "unpack {layout:?}, {} bytes to {length} codes, {:x?}: {}",
+            packed.len(),
+            start(packed),
+            outcome.unlike(&expected)
+        )
+    })
+}
+
+fn compare_pack_line(
+    library: &Library,
+    tally: &mut Tally,
+    layout: Layout,
+    codes: &[u16],
+    length: usize,
+) -> Flow {
+    let outcome = Outcome::of(length, |out| (library.pack_line)(layout, codes, out));
+    let expected = Outcome::of(length, |out| expected_pack_line(layout, codes, out));
+    tally.compare(outcome == expected, || {
+        format!(
+            "pack {layout:?}, {} codes to {length} bytes, {:x?}: {}",
+            codes.len(),
+            start(codes),
+            outcome.unlike(&expected)
+        )
+    })
+}
+
+fn compare_encode_line(
+    library: &Library,
+    tally: &mut Tally,
+    layout: Layout,
+    values: &[f32],
+    length: usize,
+) -> Flow {
+    let outcome = Outcome::of(length, |out| (library.encode_line)(layout, values, out));
+    let expected = Outcome::of(length, |out| expected_encode_line(layout, values, out));
+    tally.compare(outcome == expected, || {
+        format!(
+            "encode {layout:?}, {} floats to {length} bytes, {:?}: {}",
+            values.len(),
+            start(values),
+            outcome.unlike(&expected)
+        )
+    })
+}
+
+fn compare_encode_point(
+    library: &Library,
+    tally: &mut Tally,
+    layout: Layout,
+    values: [f32; 3],
+    length: usize,
+) -> Flow {
+    let outcome = Outcome::of(length, |out| (library.encode_point)(layout, values, out));
+    let expected = Outcome::of(length, |out| expected_encode_point(layout, values, out));
+    tally.compare(outcome == expected, || {
+        format!(
+            "encode a point {layout:?}, {values:?} to {length} bytes: {}",
+            outcome.unlike(&expected)
+        )
+    })
+}
+
+/// As many elements as a description shows.
+fn start<T>(elements: &[T]) -> &[T] {
+    &elements[..elements.len().min(12)]
+}
+
+/// The packed bytes of so many points.
+fn packed_length(layout: Layout, points: usize) -> usize {
+    points * bytes_a_point(layout)
+}

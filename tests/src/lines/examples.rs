@@ -1,0 +1,107 @@
+//! Points worked out by hand from the paper and its marked examples. The library
+//! and the reference are both compared with them.
+
+use crate::guarded::Outcome;
+use crate::library::{Layout, Library};
+use crate::tally::{Flow, Tally};
+use crate::wrong::REFERENCE;
+
+struct Example {
+    name: &'static str,
+    layout: Layout,
+    values: [f32; 3],
+    codes: [u16; 3],
+    packed: &'static [u8],
+    /// Bits of no field.
+    unused: &'static [u8],
+}
+
+/// The float just under 1/8, namely 1/8 - 2^-27.
+const UNDER_AN_EIGHTH: f32 = 0.125 - 1.0 / 134_217_728.0;
+
+const EXAMPLES: [Example; 4] = [
+    Example {
+        name: "M1, M3, M2, a byte each",
+        layout: [2, 1, 1, 8, 3, 0, 8, 16],
+        values: [1.0, 0.5, -0.5],
+        codes: [235, 240, 16],
+        packed: &[235, 240, 16],
+        unused: &[0, 0, 0],
+    },
+    Example {
+        name: "M6, M4, M5, a byte each, the last channel first",
+        layout: [2, 3, 2, 8, 4, 24, 8, 0],
+        values: [-0.25, 0.5, -0.5],
+        codes: [0, 255, 1],
+        packed: &[1, 255, 0, 0],
+        unused: &[0, 0, 255, 0],
+    },
+    // 173 * 2^20 + 174 * 2^10 + 940 = 0x0ad2bbac.
+    Example {
+        name: "M8, M7, and the narrow top, the last channel lowest",
+        layout: [1, 1, 1, 10, 4, 20, 10, 0],
+        values: [UNDER_AN_EIGHTH, 0.125, 1.0],
+        codes: [173, 174, 940],
+        packed: &[0xac, 0xbb, 0xd2, 0x0a],
+        unused: &[0, 0, 0, 0xc0],
+    },
+    // 4095 * 2^52 + 2048 * 2^12 + 2048 = 0xfff0000000800800.
+    Example {
+        name: "M9, and a field at the very top",
+        layout: [2, 4, 2, 12, 8, 52, 0, 12],
+        values: [1.0, 0.0, 0.0],
+        codes: [4095, 2048, 2048],
+        packed: &[0, 8, 0x80, 0, 0, 0, 0xf0, 0xff],
+        unused: &[0, 0, 0, 0xff, 0xff, 0xff, 0x0f, 0],
+    },
+];
+
+pub fn worked_out(library: &Library, tally: &mut Tally) -> Flow {
+    for example in &EXAMPLES {
+        for (program, library) in [("library", library), ("reference", &REFERENCE)] {
+            agrees(library, tally, program, example)?;
+        }
+    }
+    Flow::Continue(())
+}
+
+/// All four functions, on a point and on the same point twice.
+fn agrees(library: &Library, tally: &mut Tally, program: &str, example: &Example) -> Flow {
+    let layout = example.layout;
+    let name = example.name;
+    let mut point = Outcome::of(example.packed.len(), |out| {
+        (library.encode_point)(layout, example.values, out)
+    });
+    tally.compare(
+        point.answer == 1 && point.output.output() == example.packed,
+        || format!("{name}, {program}: the point is encoded otherwise"),
+    )?;
+    let twice = example.packed.repeat(2);
+    let mut encoded = Outcome::of(twice.len(), |out| {
+        (library.encode_line)(layout, &example.values.repeat(2), out)
+    });
+    tally.compare(
+        encoded.answer == 2 && encoded.output.output() == twice,
+        || format!("{name}, {program}: the line is encoded otherwise"),
+    )?;
+    let mut packed = Outcome::of(twice.len(), |out| {
+        (library.pack_line)(layout, &example.codes.repeat(2), out)
+    });
+    tally.compare(
+        packed.answer == 2 && packed.output.output() == twice,
+        || format!("{name}, {program}: the line is packed otherwise"),
+    )?;
+    let with_unused: Vec<u8> = twice
+        .iter()
+        .zip(example.unused.iter().cycle())
+        .map(|(byte, unused)| byte | unused)
+        .collect();
+    for line in [twice, with_unused] {
+        let mut codes = Outcome::of(6, |out| (library.unpack_line)(layout, &line, out));
+        tally.compare(
+            codes.answer == 2 && codes.output.output() == example.codes.repeat(2),
+            || format!("{name}, {program}: {line:x?} is unpacked otherwise"),
+        )?;
+    }
+    Flow::Continue(())
+}

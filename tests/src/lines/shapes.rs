@@ -1,0 +1,70 @@
+//! Every layout with short lines, and some of each size with the longest.
+
+use crate::guarded::Outcome;
+use crate::layouts;
+use crate::library::{Layout, Library};
+use crate::random::Random;
+use crate::tally::{Flow, Tally};
+
+use super::inputs::{self, codes, value};
+use super::{
+    compare_encode_line, compare_encode_point, compare_pack_line, compare_unpack_line,
+    packed_length, MOST_POINTS,
+};
+
+/// Two points each, so that the second's place is tried too, and a single point.
+pub fn every_layout(library: &Library, tally: &mut Tally) -> Flow {
+    let mut random = Random::new();
+    for layout in layouts::every() {
+        compare_all(library, tally, layout, 2, &mut random)?;
+        let values = [(); 3].map(|()| value(&mut random));
+        compare_encode_point(library, tally, layout, values, packed_length(layout, 1))?;
+    }
+    Flow::Continue(())
+}
+
+pub fn long_lines(library: &Library, tally: &mut Tally) -> Flow {
+    let mut random = Random::new();
+    // The number of orders is no multiple of five, so all of them have a turn.
+    for layout in layouts::chosen().step_by(5) {
+        compare_all(library, tally, layout, MOST_POINTS, &mut random)?;
+    }
+    Flow::Continue(())
+}
+
+/// What was packed must be unpacked as it was. This asks the library alone: the
+/// reference has no part in it.
+pub fn there_and_back(library: &Library, tally: &mut Tally) -> Flow {
+    let mut random = Random::new();
+    for layout in layouts::chosen() {
+        for points in [1, 2, 100] {
+            let codes = codes(layout, points, &mut random);
+            let mut there = Outcome::of(packed_length(layout, points), |out| {
+                (library.pack_line)(layout, &codes, out)
+            });
+            let packed = there.output.output();
+            let mut back = Outcome::of(codes.len(), |out| {
+                (library.unpack_line)(layout, packed, out)
+            });
+            tally.compare(back.output.output() == codes, || {
+                format!("there and back {layout:?}, {points} points: the codes differ")
+            })?;
+        }
+    }
+    Flow::Continue(())
+}
+
+/// Random lines of so many points, with outputs of the right length.
+fn compare_all(
+    library: &Library,
+    tally: &mut Tally,
+    layout: Layout,
+    points: usize,
+    random: &mut Random,
+) -> Flow {
+    let packed_length = packed_length(layout, points);
+    let line = inputs::line(layout, points, random);
+    compare_unpack_line(library, tally, layout, &line.packed, 3 * points)?;
+    compare_pack_line(library, tally, layout, &line.codes, packed_length)?;
+    compare_encode_line(library, tally, layout, &line.values, packed_length)
+}

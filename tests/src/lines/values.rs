@@ -1,0 +1,142 @@
+//! Codes and floats in every place of a line: those that are refused, and those
+//! at the edge.
+
+use crate::layouts::{self, DEPTH};
+use crate::library::{Layout, Library};
+use crate::quantization::floats::{around_codes, around_ties, at_every_exponent};
+use crate::quantization::scale_of;
+use crate::random::Random;
+use crate::tally::{Flow, Tally};
+
+use super::inputs::{self, greatest_code};
+use super::{
+    compare_encode_line, compare_encode_point, compare_pack_line, packed_length, MOST_POINTS,
+};
+
+/// Not-a-numbers: quiet, negative, and signalling with the lowest bit, with the
+/// highest, and with all.
+const NOT_A_NUMBERS: [u32; 5] = [
+    0x7fc0_0000,
+    0xffc0_0000,
+    0x7f80_0001,
+    0xffa0_0000,
+    0x7fbf_ffff,
+];
+
+/// The greatest code, the numbers above it, and each higher bit alone.
+pub fn codes(library: &Library, tally: &mut Tally) -> Flow {
+    let mut random = Random::new();
+    for layout in layouts::chosen() {
+        let greatest = greatest_code(layout);
+        let higher_bits = (layout[DEPTH]..16).map(|bit| 1 << bit);
+        let numbers: Vec<u16> = [greatest, greatest + 2, u16::MAX]
+            .into_iter()
+            .chain(higher_bits)
+            .collect();
+        for points in lengths(layout) {
+            let mut codes = inputs::codes(layout, points, &mut random);
+            for place in places(points) {
+                for &number in &numbers {
+                    let before = codes[place];
+                    codes[place] = number;
+                    let length = packed_length(layout, points);
+                    compare_pack_line(library, tally, layout, &codes, length)?;
+                    codes[place] = before;
+                }
+            }
+        }
+    }
+    Flow::Continue(())
+}
+
+pub fn not_a_numbers(library: &Library, tally: &mut Tally) -> Flow {
+    compare_at_places(library, tally, &NOT_A_NUMBERS.map(f32::from_bits))
+}
+
+/// Infinities, the largest finite floats, and the smallest.
+pub fn infinities(library: &Library, tally: &mut Tally) -> Flow {
+    let least = f32::from_bits(1);
+    let magnitudes = [f32::INFINITY, f32::MAX, least];
+    compare_at_places(library, tally, &magnitudes)?;
+    compare_at_places(library, tally, &magnitudes.map(|value| -value))
+}
+
+/// The floats around every tie and every code of both kinds, and at every
+/// exponent, in all three channels.
+pub fn ties_and_exponents(library: &Library, tally: &mut Tally) -> Flow {
+    for model in [1, 2] {
+        for range in [1, 2] {
+            for depth in [8, 10, 12] {
+                let layout = [model, 4, range, depth, 8, 64 - depth, 0, depth + 5];
+                let values = thrice(|channel| [model, range, depth, channel]);
+                for line in values.chunks(3 * MOST_POINTS) {
+                    let length = packed_length(layout, line.len() / 3);
+                    compare_encode_line(library, tally, layout, line, length)?;
+                }
+            }
+        }
+    }
+    Flow::Continue(())
+}
+
+/// Points whose three floats are the same one: those where rounding could go
+/// wrong on the scales of channels 0 and 1, and so on that of channel 2.
+fn thrice(setting: impl Fn(u8) -> [u8; 4]) -> Vec<f32> {
+    let scales = [0, 1].map(|channel| scale_of(setting(channel)));
+    scales
+        .into_iter()
+        .flat_map(|scale| around_ties(scale).chain(around_codes(scale)))
+        .chain(at_every_exponent())
+        .map(f32::from_bits)
+        .filter(|value| !value.is_nan())
+        .flat_map(|value| [value; 3])
+        .collect()
+}
+
+/// Each float in each place of lines and of points.
+fn compare_at_places(library: &Library, tally: &mut Tally, tried: &[f32]) -> Flow {
+    let mut random = Random::new();
+    for layout in layouts::chosen() {
+        for points in lengths(layout) {
+            let length = packed_length(layout, points);
+            let mut values = inputs::values(points, &mut random);
+            for place in places(points) {
+                for &value in tried {
+                    let before = values[place];
+                    values[place] = value;
+                    compare_encode_line(library, tally, layout, &values, length)?;
+                    if let Ok(point) = <[f32; 3]>::try_from(&values[..]) {
+                        compare_encode_point(library, tally, layout, point, length)?;
+                    }
+                    values[place] = before;
+                }
+            }
+        }
+    }
+    Flow::Continue(())
+}
+
+/// Short lines, and for some layouts the longest.
+fn lengths(layout: Layout) -> impl Iterator<Item = usize> {
+    let longest = layouts::one_of_each_size()
+        .step_by(4)
+        .any(|some| some[DEPTH..] == layout[DEPTH..]);
+    [1, 2, 3, 9]
+        .into_iter()
+        .chain(longest.then_some(MOST_POINTS))
+}
+
+/// The elements of the first, the middle and the last point, or of a long line
+/// the first, the middle and the last element.
+fn places(points: usize) -> impl Iterator<Item = usize> {
+    let mut places: Vec<usize> = match points {
+        MOST_POINTS => vec![0, 3 * points / 2, 3 * points - 1],
+        _ => [0, points / 2, points - 1]
+            .into_iter()
+            .flat_map(|point| 3 * point..3 * point + 3)
+            .collect(),
+    };
+    places.sort();
+    places.dedup();
+    places.into_iter()
+}

@@ -1,0 +1,258 @@
+//! Mistakes in encoding a line or a point.
+
+use reference::lines;
+use reference::refusal::Refusal;
+
+use crate::guarded::Guarded;
+use crate::layouts::{bytes_a_point, OFFSETS, PRIMARIES};
+use crate::library::{Layout, Library};
+use crate::lines::{answer, expected_encode_line, expected_encode_point};
+use crate::plain::lines::{encoded, place, store_fields};
+use crate::plain::quantization::{line, numbered};
+use crate::quantization::refused;
+
+use super::points::keeping_from;
+use super::{Wrong, REFERENCE};
+
+pub const WRONG: &[Wrong] = &[
+    // Which points.
+    encodes("only the first point encoded", |layout, values, out| {
+        keeping_from(bytes_a_point(layout), out, |out| {
+            expected_encode_line(layout, values, out)
+        })
+    }),
+    // Which bits.
+    encodes("big-endian points encoded", |layout, values, out| {
+        let count = expected_encode_line(layout, values, out);
+        if count > 0 {
+            let points = out.output().chunks_mut(bytes_a_point(layout));
+            points.for_each(<[u8]>::reverse);
+        }
+        count
+    }),
+    encodes(
+        "a field's offset taken for its neighbour's, encoding",
+        |layout, values, out| {
+            let [_, _, _, _, _, first, second, third] = layout;
+            let mut exchanged = layout;
+            exchanged[OFFSETS..].copy_from_slice(&[first, third, second]);
+            expected_encode_line(exchanged, values, out)
+        },
+    ),
+    encodes("unused bits kept, encoding", |layout, values, out| {
+        let before = out.clone();
+        let count = expected_encode_line(layout, values, out);
+        if count > 0 {
+            let mut codes = vec![0; values.len()];
+            let unpacked = lines::unpack_line(layout, out.output(), &mut codes);
+            *out = before;
+            store_fields(layout, &codes, out.output(), place);
+            return answer(unpacked);
+        }
+        count
+    }),
+    // Values.
+    encodes("a rounded product", |layout, values, out| {
+        encoded(layout, values, out, |setting, value| {
+            numbered(setting, value, |scale, v| {
+                let (step, base) = line(scale);
+                f64::from((v * step as f32 + base as f32 + 0.5).floor())
+            })
+        })
+    }),
+    encodes(
+        "all channels on the scale of channel 0",
+        |layout, values, out| {
+            encoded(layout, values, out, |setting, value| {
+                let [model, range, depth, _] = setting;
+                (REFERENCE.quantize)([model, range, depth, 0], value)
+            })
+        },
+    ),
+    encodes("infinities refused", |layout, values, out| {
+        let values: Vec<f32> = values
+            .iter()
+            .map(|&value| match value.is_infinite() {
+                true => f32::NAN,
+                false => value,
+            })
+            .collect();
+        expected_encode_line(layout, &values, out)
+    }),
+    encodes_points(
+        "a point's values in another order",
+        |layout, [first, second, third], out| {
+            expected_encode_point(layout, [third, second, first], out)
+        },
+    ),
+    // Counts.
+    encodes(
+        "an empty line refused",
+        |layout, values, out| match expected_encode_line(layout, values, out) {
+            0 => refused(Refusal::Length),
+            answer => answer,
+        },
+    ),
+    encodes_points("0 answered for a point", |layout, values, out| {
+        expected_encode_point(layout, values, out).min(0)
+    }),
+    // Refusal 13.
+    encodes("4,097 points encoded", |layout, values, out| {
+        let [most, one_more] = [4096, 4097].map(|points| points * bytes_a_point(layout));
+        match expected_encode_line(layout, values, out) {
+            -13 if values.len() == 3 * 4097 && out.length() == one_more => {
+                let bits = bits(values);
+                let (packed, last) = out.output().split_at_mut(most);
+                answer(lines::encode_line(layout, &bits[..3 * 4096], packed))
+                    + answer(lines::encode_line(layout, &bits[3 * 4096..], last))
+            }
+            answer => answer,
+        }
+    }),
+    encodes(
+        "a too long output accepted, encoding",
+        |layout, values, out| {
+            let needed = values.len() / 3 * bytes_a_point(layout);
+            let length = needed.min(out.length());
+            let output = &mut out.output()[..length];
+            answer(lines::encode_line(layout, &bits(values), output))
+        },
+    ),
+    encodes(
+        "a too short output filled",
+        |layout, values, out| match expected_encode_line(layout, values, out) {
+            -13 => {
+                let mut longer = Guarded::new(values.len() / 3 * bytes_a_point(layout));
+                let count = expected_encode_line(layout, values, &mut longer);
+                let length = longer.length().min(out.length());
+                out.output()[..length].copy_from_slice(&longer.output()[..length]);
+                count
+            }
+            answer => answer,
+        },
+    ),
+    encodes_points(
+        "an empty output of a point accepted",
+        |layout, values, out| match expected_encode_point(layout, values, out) {
+            -13 if out.length() == 0 => 0,
+            answer => answer,
+        },
+    ),
+    encodes_points("an output of two points filled", |layout, values, out| {
+        let twice = [values, values].concat();
+        match expected_encode_point(layout, values, out) {
+            -13 => expected_encode_line(layout, &twice, out),
+            answer => answer,
+        }
+    }),
+    // Refusals 12 and 14.
+    encodes(
+        "12 found after the first store",
+        |layout, values, out| match expected_encode_line(layout, values, out) {
+            -12 => {
+                let points = out.output().chunks_mut(bytes_a_point(layout));
+                answer(
+                    points
+                        .zip(bits(values).chunks(3))
+                        .try_fold(0, |count, (point, bits)| {
+                            lines::encode_line(layout, bits, point).map(|one| count + one)
+                        }),
+                )
+            }
+            answer => answer,
+        },
+    ),
+    encodes_points(
+        "12 found after a point is cleared",
+        |layout, values, out| match expected_encode_point(layout, values, out) {
+            -12 => {
+                out.output().fill(0);
+                refused(Refusal::NotANumber)
+            }
+            answer => answer,
+        },
+    ),
+    encodes("only the first point looked at", |layout, values, out| {
+        let values: Vec<f32> = (0..)
+            .zip(values)
+            .map(|(place, &value)| match place {
+                3.. if value.is_nan() => 0.0,
+                _ => value,
+            })
+            .collect();
+        expected_encode_line(layout, &values, out)
+    }),
+    encodes("signalling not-a-number encoded", |layout, values, out| {
+        let values: Vec<f32> = values
+            .iter()
+            .map(
+                |&value| match value.is_nan() && value.to_bits() >> 22 & 1 == 0 {
+                    true => 0.0,
+                    false => value,
+                },
+            )
+            .collect();
+        expected_encode_line(layout, &values, out)
+    }),
+    // The order of refusals.
+    encodes_points("13 before 9, a point", |layout, values, out| {
+        match out.length() == bytes_a_point(layout) {
+            true => expected_encode_point(layout, values, out),
+            false => refused(Refusal::Length),
+        }
+    }),
+    encodes(
+        "12 before 13",
+        |layout, values, out| match expected_encode_line(layout, values, out) {
+            -13 if values.iter().any(|value| value.is_nan()) => refused(Refusal::NotANumber),
+            answer => answer,
+        },
+    ),
+    encodes_points(
+        "12 before 13, a point",
+        |layout, values, out| match expected_encode_point(layout, values, out) {
+            -13 if values.iter().any(|value| value.is_nan()) => refused(Refusal::NotANumber),
+            answer => answer,
+        },
+    ),
+    encodes("12 before 9", |layout, values, out| {
+        match values.iter().any(|value| value.is_nan()) {
+            true => refused(Refusal::NotANumber),
+            false => expected_encode_line(layout, values, out),
+        }
+    }),
+    // Layouts.
+    encodes("primaries not looked at", |layout, values, out| {
+        let mut changed = layout;
+        changed[PRIMARIES] = 1;
+        expected_encode_line(changed, values, out)
+    }),
+    encodes("everything refused", |_, _, _| refused(Refusal::Outside)),
+    encodes_points("every point refused", |_, _, _| refused(Refusal::Outside)),
+];
+
+const fn encodes(
+    mistake: &'static str,
+    encode_line: fn(Layout, &[f32], &mut Guarded<u8>) -> i64,
+) -> Wrong {
+    let library = Library {
+        encode_line,
+        ..REFERENCE
+    };
+    (mistake, library)
+}
+
+const fn encodes_points(
+    mistake: &'static str,
+    encode_point: fn(Layout, [f32; 3], &mut Guarded<u8>) -> i64,
+) -> Wrong {
+    let library = Library {
+        encode_point,
+        ..REFERENCE
+    };
+    (mistake, library)
+}
+
+fn bits(values: &[f32]) -> Vec<u32> {
+    values.iter().map(|value| value.to_bits()).collect()
+}
