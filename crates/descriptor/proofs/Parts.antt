@@ -1,7 +1,8 @@
 -- The descriptor's bytes stored in the output part by part. Assumes nothing.
 use mathlib.Core.Path.{_≡_, refl, sym, ap, _∙_}
 use mathlib.Core.List.{List, [], _++_}
-use Prim.Native.Nat.{ℕ, _+_, _<_}
+use Prim.Native.Nat.{ℕ, _+_, _≤_, _<_}
+use native.Mathlib.Omega.{arith}
 use lib.ListN.{length, getD, List·getD-append}
 use lib.Seq.{getD-append-add}
 use Rattle.lists.specs.Lists.{written}
@@ -39,10 +40,10 @@ within p part q at j e h =
     ∙ ap (λ (m : ℕ). getD (p ++ (part ++ q)) (m + j) 0) e
 
 -- what the output then has of the whole
-part-stored : (out whole p part q : List ℕ) (at next : ℕ) (xs ys : List ℕ) → whole ≡ p ++ (part ++ q) → length p ≡ at → at + length part ≡ next → ys ≡ stored xs at part
+part-stored : (out whole p part q : List ℕ) (at next : ℕ) (xs ys : List ℕ) → whole ≡ p ++ (part ++ q) → length p ≡ at → at + length part ≡ next → next ≤ length out → ys ≡ stored xs at part
     → Filled out (λ k. getD whole k 0) at xs → Filled out (λ k. getD whole k 0) next ys
-part-stored out whole p part q at next xs ys w e n s f =
-    filled-more (λ k. getD part k 0) (length part) n
+part-stored out whole p part q at next xs ys w e n room s f =
+    filled-more (λ k. getD part k 0) (length part) n room
     (λ j h. within p part q at j e h ∙ sym (ap (λ (zs : List ℕ). getD zs (at + j) 0) w)) f s
 
 -- all four parts
@@ -57,8 +58,8 @@ all-stored l out h a b c x0 x1 x2 x3 n eh ea eb ec s0 s1 s2 s3 =
     let a′ = sampleBytes (s .first) in
     let b′ = sampleBytes (s .second) in
     let c′ = sampleBytes (s .third) in
-    let f0 : Filled out (λ k. getD whole k 0) 28 x0 = part-stored out whole [] h′ (a′ ++ (b′ ++ c′)) 0 28 out x0 refl refl refl (s0 ∙ ap (stored out 0) eh) filled-none in
-    let f1 : Filled out (λ k. getD whole k 0) 44 x1 = part-stored out whole h′ a′ (b′ ++ c′) 28 44 x0 x1 refl refl refl (s1 ∙ ap (stored x0 28) ea) f0 in
-    let f2 : Filled out (λ k. getD whole k 0) 60 x2 = part-stored out whole (h′ ++ a′) b′ c′ 44 60 x1 x2 refl refl refl (s2 ∙ ap (stored x1 44) eb) f1 in
-    let f3 : Filled out (λ k. getD whole k 0) 76 x3 = part-stored out whole ((h′ ++ a′) ++ b′) c′ [] 60 76 x2 x3 refl refl refl (s3 ∙ ap (stored x2 60) ec) f2 in
+    let f0 : Filled out (λ k. getD whole k 0) 28 x0 = part-stored out whole [] h′ (a′ ++ (b′ ++ c′)) 0 28 out x0 refl refl refl (omega arith) (s0 ∙ ap (stored out 0) eh) filled-none in
+    let f1 : Filled out (λ k. getD whole k 0) 44 x1 = part-stored out whole h′ a′ (b′ ++ c′) 28 44 x0 x1 refl refl refl (omega arith) (s1 ∙ ap (stored x0 28) ea) f0 in
+    let f2 : Filled out (λ k. getD whole k 0) 60 x2 = part-stored out whole (h′ ++ a′) b′ c′ 44 60 x1 x2 refl refl refl (omega arith) (s2 ∙ ap (stored x1 44) eb) f1 in
+    let f3 : Filled out (λ k. getD whole k 0) 76 x3 = part-stored out whole ((h′ ++ a′) ++ b′) c′ [] 60 76 x2 x3 refl refl refl (omega arith) (s3 ∙ ap (stored x2 60) ec) f2 in
     filled-all 0 n f3 ∙ sym (is-tabulate 0 whole 76 (λ k. getD whole k 0) refl (λ k h. refl))

@@ -4,6 +4,7 @@ use mathlib.Core.List.{List, [], _∷_}
 use lib.Ieee.{Float}
 use lib.ListN.{getD}
 use Rattle.layout.specs.declared.Layout.{Layout}
+use Rattle.line.specs.declared.Point.{Point}
 
 -- the layout of eight bytes
 abbrev pub layoutOf : List ℕ → Layout
@@ -20,9 +21,9 @@ layoutOf b =
     }
 
 -- the eight bytes of a layout
-abbrev pub bytesOf : Layout → List ℕ
-bytesOf l = l .model ∷ l .primaries ∷ l .range ∷ l .depth ∷ l .bytes ∷ l .offset0 ∷ l .offset1 ∷ l .offset2 ∷ []
+abbrev pub layoutBytes : Layout → List ℕ
+layoutBytes l = l .model ∷ l .primaries ∷ l .range ∷ l .depth ∷ l .bytes ∷ l .offset0 ∷ l .offset1 ∷ l .offset2 ∷ []
 
--- the values of one point
-abbrev pub valuesOf : Float → Float → Float → List Float
-valuesOf c0 c1 c2 = c0 ∷ c1 ∷ c2 ∷ []
+-- the point of three values
+abbrev pub pointOf : Float → Float → Float → Point
+pointOf c0 c1 c2 = record { channel0 = c0; channel1 = c1; channel2 = c2 }

@@ -1,8 +1,6 @@
 -- The answers as C sees them: include/imurraqi.h. A number of 0 or more is the answer, and a refusal is minus its number. Assumes nothing.
 use Prim.Native.Nat.{ℕ}
-use mathlib.Core.Bool.{Bool}
 use mathlib.Core.List.{List}
-use lib.Dec.{leb}
 use lib.IntN.{ℤ, pos, negℤ}
 use lib.Ieee.{Float}
 use Rattle.quantization.specs.declared.Dequantized.{Dequantized}
@@ -13,9 +11,9 @@ use Rattle.descriptor.specs.declared.Reading.{Reading}
 use Rattle.descriptor.specs.declared.Reading.the-variants.{Accepted, Refused as NoLayout}
 use Rattle.descriptor.specs.declared.Writing.{Writing}
 use Rattle.descriptor.specs.declared.Writing.the-variants.{Done, Refused as NotWritten}
-use Rattle.scanline.specs.declared.LineAnswer.{LineAnswer}
-use Rattle.scanline.specs.declared.LineAnswer.the-variants.{Points, Refused as NoLine}
-use Rattle.imurraqi.specs.Layouts.{bytesOf}
+use Rattle.line.specs.declared.LineAnswer.{LineAnswer}
+use Rattle.line.specs.declared.LineAnswer.the-variants.{Points, Refused as NoLine}
+use Rattle.imurraqi.specs.Layouts.{layoutBytes}
 
 -- 0 for a layout
 abbrev pub readNumber : Reading → ℤ
@@ -24,7 +22,7 @@ readNumber (NoLayout k) = negℤ (pos k)
 
 -- the eight bytes behind the pointer: the layout's, or what stood there before where it is refused
 abbrev pub readLayout : Reading → List ℕ → List ℕ
-readLayout (Accepted l) before = bytesOf l
+readLayout (Accepted l) before = layoutBytes l
 readLayout (NoLayout k) before = before
 
 -- 0 for a descriptor written
@@ -53,8 +51,3 @@ quantizedNumber (NoCode k) = negℤ (pos k)
 abbrev pub lineNumber : LineAnswer → ℤ
 lineNumber (Points n) = pos n
 lineNumber (NoLine k) = negℤ (pos k)
-
--- which the machine has: at most 4,096 points, and no refusal beyond 15 (only private functions cite it)
-abbrev pub smallLine : LineAnswer → Bool
-smallLine (Points n) = leb n 4096
-smallLine (NoLine k) = leb k 15

@@ -6,11 +6,11 @@ ghost use mathlib.Core.Bool.{true};
 ghost use lib.ListN.{length};
 ghost use Rattle.quantization.specs.Answer.{dequantized, quantized};
 ghost use Rattle.descriptor.specs.Descriptor.{readDescriptor, writeAnswer, writeOutput};
-ghost use Rattle.scanline.specs.Answer.{unpackAnswer, packAnswer, encodeAnswer, kept};
-ghost use Rattle.scanline.specs.Line.{codesOf, packedOf};
-ghost use Rattle.scanline.specs.Encode.{quantizedOf};
-ghost use Rattle.imurraqi.specs.Numbers.{dequantizedNumber, dequantizedValue, quantizedNumber, lineNumber, smallLine, readNumber, readLayout, writtenNumber};
-ghost use Rattle.imurraqi.specs.Layouts.{layoutOf, bytesOf, valuesOf};
+ghost use Rattle.line.specs.Answer.{unpackAnswer, unpackOutput, packAnswer, packOutput};
+ghost use Rattle.packing.specs.Encode.{encodeAnswer, encodeOutput, pointValues};
+ghost use Rattle.imurraqi.specs.Numbers.{dequantizedNumber, dequantizedValue, quantizedNumber, lineNumber, readNumber, readLayout, writtenNumber};
+ghost use Rattle.imurraqi.specs.Layouts.{layoutOf, layoutBytes, pointOf};
+ghost use Rattle.imurraqi.specs.Whole.{smallLine};
 use descriptor::Reading;
 use descriptor::Writing;
 use layout::Layout;
@@ -55,7 +55,7 @@ fn layout_of(bytes: &[u8; 8]) -> Layout
 
 // The eight bytes of a layout.
 fn bytes_of(layout: Layout) -> [u8; 8]
-    ensures { λ r. ⌜ r ≡ bytesOf layout ⌝ }
+    ensures { λ r. ⌜ r ≡ layoutBytes layout ⌝ }
 {
     [
         layout.model,
@@ -133,7 +133,7 @@ pub extern "C" fn imurraqi_quantize(model: u8, range: u8, depth: u8, channel: u8
     }
 }
 
-// Packs one point of three values. Answers 1.
+// Encodes one point of three values. Answers 1.
 #[no_mangle]
 pub extern "C" fn imurraqi_encode_point(
     layout: &[u8; 8],
@@ -142,8 +142,8 @@ pub extern "C" fn imurraqi_encode_point(
     channel2: f32,
     out: &mut [u8],
 ) -> i64
-    ensures answer { λ r. ⌜ r ≡ lineNumber (encodeAnswer (layoutOf (now (layout .entry))) (valuesOf channel0 channel1 channel2) (length (now (out .entry)))) ⌝ }
-    ensures memory { λ _. ⌜ now (out .exit) ≡ kept (encodeAnswer (layoutOf (now (layout .entry))) (valuesOf channel0 channel1 channel2) (length (now (out .entry)))) (now (out .entry)) (packedOf (layoutOf (now (layout .entry))) (quantizedOf (layoutOf (now (layout .entry))) (valuesOf channel0 channel1 channel2))) ⌝ }
+    ensures answer { λ r. ⌜ r ≡ lineNumber (encodeAnswer (layoutOf (now (layout .entry))) (pointValues (pointOf channel0 channel1 channel2)) (length (now (out .entry)))) ⌝ }
+    ensures memory { λ _. ⌜ now (out .exit) ≡ encodeOutput (layoutOf (now (layout .entry))) (pointValues (pointOf channel0 channel1 channel2)) (now (out .entry)) ⌝ }
 {
     let point = Point {
         channel0: channel0,
@@ -153,11 +153,11 @@ pub extern "C" fn imurraqi_encode_point(
     line_number(scanline::encode_point(layout_of(layout), point, out))
 }
 
-// Packs a line of values, three a point. Answers the count of points.
+// Encodes a line of values, three a point. Answers the count of points.
 #[no_mangle]
 pub extern "C" fn imurraqi_encode_line(layout: &[u8; 8], values: &[f32], out: &mut [u8]) -> i64
     ensures answer { λ r. ⌜ r ≡ lineNumber (encodeAnswer (layoutOf (now (layout .entry))) (now (values .entry)) (length (now (out .entry)))) ⌝ }
-    ensures memory { λ _. ⌜ now (out .exit) ≡ kept (encodeAnswer (layoutOf (now (layout .entry))) (now (values .entry)) (length (now (out .entry)))) (now (out .entry)) (packedOf (layoutOf (now (layout .entry))) (quantizedOf (layoutOf (now (layout .entry))) (now (values .entry)))) ⌝ }
+    ensures memory { λ _. ⌜ now (out .exit) ≡ encodeOutput (layoutOf (now (layout .entry))) (now (values .entry)) (now (out .entry)) ⌝ }
 {
     line_number(scanline::encode_line(layout_of(layout), values, out))
 }
@@ -166,7 +166,7 @@ pub extern "C" fn imurraqi_encode_line(layout: &[u8; 8], values: &[f32], out: &m
 #[no_mangle]
 pub extern "C" fn imurraqi_unpack_line(layout: &[u8; 8], packed: &[u8], out: &mut [u16]) -> i64
     ensures answer { λ r. ⌜ r ≡ lineNumber (unpackAnswer (layoutOf (now (layout .entry))) (length (now (packed .entry))) (length (now (out .entry)))) ⌝ }
-    ensures memory { λ _. ⌜ now (out .exit) ≡ kept (unpackAnswer (layoutOf (now (layout .entry))) (length (now (packed .entry))) (length (now (out .entry)))) (now (out .entry)) (codesOf (layoutOf (now (layout .entry))) (now (packed .entry))) ⌝ }
+    ensures memory { λ _. ⌜ now (out .exit) ≡ unpackOutput (layoutOf (now (layout .entry))) (now (packed .entry)) (now (out .entry)) ⌝ }
 {
     line_number(scanline::unpack_line(layout_of(layout), packed, out))
 }
@@ -175,7 +175,7 @@ pub extern "C" fn imurraqi_unpack_line(layout: &[u8; 8], packed: &[u8], out: &mu
 #[no_mangle]
 pub extern "C" fn imurraqi_pack_line(layout: &[u8; 8], codes: &[u16], out: &mut [u8]) -> i64
     ensures answer { λ r. ⌜ r ≡ lineNumber (packAnswer (layoutOf (now (layout .entry))) (now (codes .entry)) (length (now (out .entry)))) ⌝ }
-    ensures memory { λ _. ⌜ now (out .exit) ≡ kept (packAnswer (layoutOf (now (layout .entry))) (now (codes .entry)) (length (now (out .entry)))) (now (out .entry)) (packedOf (layoutOf (now (layout .entry))) (now (codes .entry))) ⌝ }
+    ensures memory { λ _. ⌜ now (out .exit) ≡ packOutput (layoutOf (now (layout .entry))) (now (codes .entry)) (now (out .entry)) ⌝ }
 {
     line_number(scanline::pack_line(layout_of(layout), codes, out))
 }

@@ -1,7 +1,9 @@
 -- Document 01, "Layout". Assumes nothing.
-use Prim.Native.Nat.{ℕ, _+_, _-_, _*_, _^_}
+use Prim.Native.Nat.{ℕ, zero, suc, _+_, _-_, _*_, _^_}
 use mathlib.Core.Bool.{Bool, cond, _&&_, _||_}
+use mathlib.Core.List.{List}
 use lib.Dec.{eqb, leb, ltb}
+use Rattle.lists.specs.Lists.{every}
 use Rattle.layout.specs.declared.Layout.{Layout}
 use Rattle.layout.specs.declared.range.Range.{Range}
 use Rattle.layout.specs.declared.range.Range.the-variants.{Narrow, Full}
@@ -61,6 +63,18 @@ topOf n = 2 ^ n - 1
 -- channels 1 and 2 of Y'CbCr, Cb and Cr, are differences, and all others brightness
 abbrev pub kindOf : ℕ → ℕ → Kind
 kindOf model channel = cond (eqb model 2 && (eqb channel 1 || eqb channel 2)) Difference Brightness
+
+-- ---- a layout
+
+-- the bit offset of channel 0, 1 or 2 (any other is taken for 2)
+abbrev pub offsetOf : Layout → ℕ → ℕ
+offsetOf l zero = l .offset0
+offsetOf l (suc zero) = l .offset1
+offsetOf l (suc (suc channel)) = l .offset2
+
+-- no code is above the highest of the depth
+abbrev pub codesWithin : Layout → List ℕ → Bool
+codesWithin l codes = every (λ c. leb c (topOf (l .depth))) codes
 
 -- ---- a valid layout
 

@@ -12,7 +12,7 @@ use lib.Ieee.Exact.{odd-sign}
 use Rattle.fractions.specs.Fraction.{bounded}
 use Rattle.quantization.specs.declared.scale.Scale.{Scale}
 use Rattle.quantization.specs.declared.code.Coded.the-variants.{Code}
-use Rattle.quantization.specs.Code.{codeOf}
+use Rattle.quantization.specs.Code.{codeOf, codeOr}
 use Rattle.quantization.specs.Whole.{wholeCode, fractionBits}
 use Rattle.quantization.proofs.Codes.{Small, code-of-value, whole-same, near-base, far-same}
 
@@ -84,17 +84,17 @@ module _ (sc : Scale) (k : Small sc) (s : Bool) (t : ℕ) (d : t < 2 ^ 23) where
       go false true p q r i = middle-field x (q tt) (r tt)
       go false false p q r i = high-field x (i tt) h
 
-  -- a field of 255 is an infinity, or a NaN
-  pub infinite-field : (x : ℕ) → x ≡ 255 → T (not (eqb x 255 && not (eqb t 0))) → codeOf sc (ofFields binary32 s x t) ≡ Code (cond s (sc .low) (sc .high))
-  unfolding codeOf ofFields
-  infinite-field zero e n = absurd (omega arith)
-  infinite-field (suc x) e n = go (eqb (suc x) 255) (eqb t 0) (λ q. eqb-false (suc x) 255 q e) n
-    where
-      ends : (s : Bool) → codeOf sc (inf s) ≡ Code (cond s (sc .low) (sc .high))
-      ends true = refl
-      ends false = refl
+-- a field of 255 is an infinity, or a NaN, which is taken for one
+pub infinite-field : (sc : Scale) (s : Bool) (t x : ℕ) → x ≡ 255 → codeOr (cond s (sc .low) (sc .high)) (codeOf sc (ofFields binary32 s x t)) ≡ cond s (sc .low) (sc .high)
+unfolding codeOf ofFields
+infinite-field sc s t zero e = absurd (omega arith)
+infinite-field sc s t (suc x) e = go (eqb (suc x) 255) (eqb t 0) (λ q. eqb-false (suc x) 255 q e)
+  where
+    ends : (s : Bool) → codeOr (cond s (sc .low) (sc .high)) (codeOf sc (inf s)) ≡ cond s (sc .low) (sc .high)
+    ends true = refl
+    ends false = refl
 
-      go : (b z : Bool) → (b ≡ false → ⊥) → T (not (b && not z)) → codeOf sc (cond b (cond z (inf s) nan) (odd 24 s digits x 149)) ≡ Code (cond s (sc .low) (sc .high))
-      go true true f n = ends s
-      go true false f n = absurd n
-      go false z f n = absurd (f refl)
+    go : (b z : Bool) → (b ≡ false → ⊥) → codeOr (cond s (sc .low) (sc .high)) (codeOf sc (cond b (cond z (inf s) nan) (odd 24 s (2 ^ 23 + t) x 149))) ≡ cond s (sc .low) (sc .high)
+    go true true f = ends s
+    go true false f = refl
+    go false z f = absurd (f refl)

@@ -11,20 +11,19 @@ use lib.Dec.{lit<, ltb}
 use lib.ListN.{length, getD, take, drop}
 use lib.Pow.{pow-mono, shl-lt}
 use lib.Seq.{getD-take, getD-drop, ext-getD}
-use Rattle.lists.specs.Lists.{tabulate, every}
-use Rattle.lists.specs.Bytes.{little, bytesOf}
+use Rattle.lists.specs.Lists.{tabulate}
+use Rattle.lists.specs.Bytes.{areBytes, little, bytesOf}
 use Rattle.lists.proofs.Bytes.{little-bytesOf, getD-bytesOf, length-bytesOf}
 use Rattle.lists.proofs.Every.{every-of}
 use Rattle.lists.proofs.Lists.{length-tabulate, getD-tabulate, is-tabulate}
 use Rattle.layout.specs.declared.Layout.{Layout}
-use Rattle.layout.specs.Layout.{validLayout}
+use Rattle.layout.specs.Layout.{validLayout, offsetOf}
 use Rattle.layout.proofs.Facts.{Valid, valid-says}
-use Rattle.scanline.specs.Point.{offsetOf, bits, pointOf, inPlace}
-use Rattle.scanline.specs.Line.{joined, codeOf, codesOf, packedByte, packedOf}
-use Rattle.scanline.proofs.Joins.{or-sum}
-use Rattle.scanline.proofs.Packs.{code-lt, byte-at}
-use Rattle.scanline.proofs.Points.{point-inside}
-use Rattle.scanline_laws.specs.Claims.{Coded}
+use Rattle.line.specs.Point.{bits, pointOf, inPlace}
+use Rattle.line.specs.Line.{joined, codeAt, codesOf, byteAt, packedOf}
+use Rattle.line.proofs.Joins.{or-sum}
+use Rattle.line.proofs.Points.{code-lt, byte-at, point-inside}
+use Rattle.scanline_laws.specs.Claims.{CodeLine}
 use Rattle.scanline_laws.proofs.Bits.{pow-256, own, other, turned, bits-or3}
 use Rattle.scanline_laws.proofs.Cleared.{part-length}
 
@@ -62,9 +61,9 @@ module _ (l : Layout) (ok : validLayout l ≡ true) (a b c : ℕ) (ha : a < 2 ^ 
       (subst (λ (t : ℕ). t < 2 ^ w) (or-sum l ok a b c ha hb hc)
       (or-lt w _ _ (each (l .offset0) a ha (r .inside0)) (or-lt w _ _ (each (l .offset1) b hb (r .inside1)) (each (l .offset2) c hc (r .inside2)))))
 
-module _ (l : Layout) (n : ℕ) (cs : List ℕ) (p : Coded l n cs) where
+module _ (l : Layout) (n : ℕ) (cs : List ℕ) (p : CodeLine l n cs) where
   small : (i j : ℕ) → j < 3 → i < n → getD cs (3 * i + j) 0 < 2 ^ l .depth
-  small i j h k = code-lt (l .depth) cs (3 * i + j) (p .codes) (omega (arith, p .points))
+  small i j h k = code-lt l cs (3 * i + j) (p .codes) (omega (arith, p .points))
 
   small0 : (i : ℕ) → i < n → getD cs (3 * i) 0 < 2 ^ l .depth
   small0 i k = rw add-zero at (small i 0 (lit< tt) k)
@@ -86,14 +85,14 @@ module _ (l : Layout) (n : ℕ) (cs : List ℕ) (p : Coded l n cs) where
 
   pub length-packed : length (packedOf l cs) ≡ l .bytes * n
   unfolding packedOf
-  length-packed = length-tabulate (l .bytes * (length cs / 3)) (packedByte l cs) ∙ ap (λ (t : ℕ). l .bytes * t) third
+  length-packed = length-tabulate (l .bytes * (length cs / 3)) (byteAt l cs) ∙ ap (λ (t : ℕ). l .bytes * t) third
 
-  packed-at : (k : ℕ) → k < l .bytes * n → getD (packedOf l cs) k 0 ≡ packedByte l cs k
+  packed-at : (k : ℕ) → k < l .bytes * n → getD (packedOf l cs) k 0 ≡ byteAt l cs k
   unfolding packedOf
-  packed-at k h = getD-tabulate (l .bytes * (length cs / 3)) (packedByte l cs) k 0 (subst (λ (t : ℕ). k < l .bytes * t) (sym third) h)
+  packed-at k h = getD-tabulate (l .bytes * (length cs / 3)) (byteAt l cs) k 0 (subst (λ (t : ℕ). k < l .bytes * t) (sym third) h)
 
-  pub packed-bytes : every (λ b. ltb b 256) (packedOf l cs) ≡ true
-  unfolding packedByte
+  pub packed-bytes : areBytes (packedOf l cs) ≡ true
+  unfolding byteAt
   packed-bytes = every-of (λ b. ltb b 256) 0 (packedOf l cs) (λ k h.
       let e = packed-at k (omega (arith, length-packed)) in
       lt-ltb (getD (packedOf l cs) k 0) 256 (omega (arith, e)))
@@ -111,17 +110,17 @@ module _ (l : Layout) (n : ℕ) (cs : List ℕ) (p : Coded l n cs) where
       ext-getD 0 part (bytesOf v b) (len ∙ sym (length-bytesOf v b))
       (λ j h. let q : j < b = omega arith in
       getD-take b (drop (i * b) (packedOf l cs)) j 0 q ∙ getD-drop (i * b) (packedOf l cs) j 0 ∙ packed-at (i * b + j) (omega arith)
-      ∙ ap (packedByte l cs) (ap (λ (t : ℕ). t + j) (mul-comm i b)) ∙ sym (byte-at l cs b refl i j q) ∙ sym (getD-bytesOf v b j q)) in
+      ∙ ap (byteAt l cs) (ap (λ (t : ℕ). t + j) (mul-comm i b)) ∙ sym (byte-at l cs i j q) ∙ sym (getD-bytesOf v b j q)) in
       ap little same ∙ little-bytesOf v b (joined-lt i k)
 
   pub unpack-pack : codesOf l (packedOf l cs) ≡ cs
-  unfolding codesOf codeOf
+  unfolding codesOf codeAt
   unpack-pack =
       let r : Valid l = valid-says l (p .valid) in
       let pos : 0 < l .bytes = omega (arith, r .bytes-least) in
       let e : length (packedOf l cs) / l .bytes ≡ n = ap (λ (t : ℕ). t / l .bytes) (length-packed ∙ mul-comm (l .bytes) n) ∙ mul-div-cancel n pos in
-      ap (λ (t : ℕ). tabulate (3 * t) (codeOf l (packedOf l cs))) e
-      ∙ sym (is-tabulate 0 cs (3 * n) (codeOf l (packedOf l cs)) (p .points) (λ k h.
+      ap (λ (t : ℕ). tabulate (3 * t) (codeAt l (packedOf l cs))) e
+      ∙ sym (is-tabulate 0 cs (3 * n) (codeAt l (packedOf l cs)) (p .points) (λ k h.
       let hi : k / 3 < n = omega arith in
       let e : k ≡ 3 * (k / 3) + k % 3 = omega arith in
       ap (λ (t : ℕ). getD cs t 0) e ∙ sym (joined-field (k / 3) (k % 3) hi (omega arith)) ∙ ap (bits (l .depth) (offsetOf l (k % 3))) (sym (point-is (k / 3) hi))))

@@ -12,7 +12,7 @@ use lib.Pow.{pow-add, pow-mono, high-ones, shl-lt, shl-shr}
 use Rattle.lists.specs.Bytes.{byteOf}
 use Rattle.lists.proofs.Tests.{or-cases}
 use Rattle.layout.specs.Layout.{apart}
-use Rattle.scanline.specs.Point.{bits}
+use Rattle.line.specs.Point.{bits}
 
 -- 256 ^ j is 2 ^ (8 j)
 pub pow-256 : (j : ℕ) → 256 ^ j ≡ 2 ^ (8 * j)

@@ -17,21 +17,21 @@ use Rattle.lists.proofs.Bytes.{bytesOf-little, getD-bytesOf}
 use Rattle.lists.proofs.Every.{every-at, every-of}
 use Rattle.lists.proofs.Lists.{length-tabulate, getD-tabulate, tabulate-same}
 use Rattle.layout.specs.declared.Layout.{Layout}
-use Rattle.layout.specs.Layout.{topOf}
+use Rattle.layout.specs.Layout.{topOf, offsetOf, codesWithin}
 use Rattle.layout.proofs.Facts.{Valid, valid-says}
-use Rattle.scanline.specs.Point.{offsetOf, bits, pointOf, inPlace}
-use Rattle.scanline.specs.Line.{joined, codeOf, codesOf, packedByte, packedOf}
-use Rattle.scanline.proofs.Joins.{and-or, or-sum}
-use Rattle.scanline.proofs.Points.{code-at, point-inside}
+use Rattle.line.specs.Point.{bits, pointOf, inPlace}
+use Rattle.line.specs.Line.{joined, codeAt, codesOf, byteAt, packedOf}
+use Rattle.line.proofs.Joins.{and-or, or-sum}
+use Rattle.line.proofs.Points.{code-at, point-inside}
 use Rattle.scanline_laws.specs.Cleared.{usedBits, cleared}
-use Rattle.scanline_laws.specs.Claims.{Packed}
+use Rattle.scanline_laws.specs.Claims.{PackedLine}
 use Rattle.scanline_laws.proofs.Bits.{byte-and, field-ones}
 
 -- k elements from index o on
 pub part-length : (s : List ℕ) (o k : ℕ) → o + k ≤ length s → length (take k (drop o s)) ≡ k
 part-length s o k h = length-take-le k (drop o s) (rw (length-drop o s) (omega arith))
 
-module _ (l : Layout) (n : ℕ) (s : List ℕ) (p : Packed l n s) where
+module _ (l : Layout) (n : ℕ) (s : List ℕ) (p : PackedLine l n s) where
   abbrev b : ℕ
   b = l .bytes
 
@@ -43,12 +43,12 @@ module _ (l : Layout) (n : ℕ) (s : List ℕ) (p : Packed l n s) where
 
   pub length-codes : length (codesOf l s) ≡ 3 * n
   unfolding codesOf
-  length-codes = length-tabulate (3 * (length s / b)) (codeOf l s) ∙ ap (λ (m : ℕ). 3 * m) point-count
+  length-codes = length-tabulate (3 * (length s / b)) (codeAt l s) ∙ ap (λ (m : ℕ). 3 * m) point-count
 
   -- code 3 i + j of the line's codes
   code-is : (i j : ℕ) → j < 3 → i < n → getD (codesOf l s) (3 * i + j) 0 ≡ bits (l .depth) (offsetOf l j) (pointOf l s i)
   unfolding codesOf
-  code-is i j h k = getD-tabulate (3 * (length s / b)) (codeOf l s) (3 * i + j) 0 (omega (arith, point-count)) ∙ sym (code-at l s i j h)
+  code-is i j h k = getD-tabulate (3 * (length s / b)) (codeAt l s) (3 * i + j) 0 (omega (arith, point-count)) ∙ sym (code-at l s i j h)
 
   -- the three fields of v in their places are the `&` with the used bits
   fields-used : (v : ℕ) → inPlace l (bits (l .depth) (l .offset0) v) (bits (l .depth) (l .offset1) v) (bits (l .depth) (l .offset2) v) ≡ bitAnd v (usedBits l)
@@ -86,8 +86,8 @@ module _ (l : Layout) (n : ℕ) (s : List ℕ) (p : Packed l n s) where
       every-of (λ x. ltb x 256) 0 part (λ a q. let r : a < b = omega arith in let t : i * b + a < length s = omega arith in ap (λ (x : ℕ). ltb x 256) (at a r) ∙ every-at (λ x. ltb x 256) 0 s (i * b + a) (p .bytes) t) in
       sym (getD-bytesOf (little part) (length part) j (omega arith)) ∙ ap (λ (xs : List ℕ). getD xs j 0) (bytesOf-little part all) ∙ at j h
 
-  byte-is : (k : ℕ) → k < length s → packedByte l (codesOf l s) k ≡ bitAnd (getD s k 0) (byteOf (usedBits l) (k % b))
-  unfolding packedByte
+  byte-is : (k : ℕ) → k < length s → byteAt l (codesOf l s) k ≡ bitAnd (getD s k 0) (byteOf (usedBits l) (k % b))
+  unfolding byteAt
   byte-is k h =
       let hi : k / b < n = div-lt-iff-lt-mul bytes-pos .1 (omega (arith, p .points, mul-comm b n)) in
       ap (λ (v : ℕ). byteOf v (k % b)) (joined-is (k / b) hi)
@@ -98,10 +98,10 @@ module _ (l : Layout) (n : ℕ) (s : List ℕ) (p : Packed l n s) where
   unfolding packedOf cleared
   pack-unpack =
       let e : length (codesOf l s) / 3 ≡ n = omega (arith, length-codes) in
-      ap (λ (m : ℕ). tabulate m (packedByte l (codesOf l s))) (ap (λ (m : ℕ). b * m) e ∙ sym (p .points))
-      ∙ tabulate-same 0 (length s) (packedByte l (codesOf l s)) (λ k. bitAnd (getD s k 0) (byteOf (usedBits l) (k % b))) byte-is
+      ap (λ (m : ℕ). tabulate m (byteAt l (codesOf l s))) (ap (λ (m : ℕ). b * m) e ∙ sym (p .points))
+      ∙ tabulate-same 0 (length s) (byteAt l (codesOf l s)) (λ k. bitAnd (getD s k 0) (byteOf (usedBits l) (k % b))) byte-is
 
-  pub codes-small : every (λ c. leb c (topOf (l .depth))) (codesOf l s) ≡ true
+  pub codes-small : codesWithin l (codesOf l s) ≡ true
   codes-small = every-of (λ c. leb c (topOf (l .depth))) 0 (codesOf l s) (λ k h.
       let i = k / 3 in
       let j = k % 3 in

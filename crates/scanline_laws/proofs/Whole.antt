@@ -20,7 +20,7 @@ use Rattle.layout.specs.declared.Layout.{Layout}
 use Rattle.layout.specs.Layout.{validLayout, apart}
 use Rattle.layout.proofs.Facts.{Valid, valid-says}
 use Rattle.scanline_laws.specs.Cleared.{usedBits, cleared}
-use Rattle.scanline_laws.specs.Claims.{Packed}
+use Rattle.scanline_laws.specs.Claims.{PackedLine}
 use Rattle.scanline_laws.proofs.Bits.{pow-256}
 use Rattle.scanline_laws.proofs.Cleared.{bytes-pos}
 
@@ -79,7 +79,7 @@ module _ (l : Layout) (ok : validLayout l ≡ true) (every-bit : 3 * l .depth �
       whole m x y z (8 * l .bytes) (omega (arith, r .depth-least)) every-bit (r .inside0) (r .inside1) (r .inside2) (sides x y m (r .apart01)) (sides x z m (r .apart02)) (sides y z m (r .apart12))
       ∙ sym (pow-256 (l .bytes))
 
-  pub cleared-same : (n : ℕ) (s : List ℕ) → Packed l n s → cleared l s ≡ s
+  pub cleared-same : (n : ℕ) (s : List ℕ) → PackedLine l n s → cleared l s ≡ s
   unfolding cleared
   cleared-same n s p =
       let b = l .bytes in

@@ -7,7 +7,7 @@ use Rattle.lists.specs.Lists.{tabulate}
 use Rattle.lists.specs.Bytes.{byteOf}
 use Rattle.layout.specs.declared.Layout.{Layout}
 use Rattle.layout.specs.Layout.{topOf}
-use Rattle.scanline.specs.Point.{inPlace}
+use Rattle.line.specs.Point.{inPlace}
 
 -- the bits that the three fields use: ones in each field, and zeros elsewhere
 unfoldable pub usedBits : Layout → ℕ

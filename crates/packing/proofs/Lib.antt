@@ -1,0 +1,3 @@
+mod Packs
+pub mod Encodes
+mod Answers

@@ -1,6 +1,0 @@
-pub mod Points
-pub mod Packs
-pub mod Joins
-mod Answers
-mod Masks
-mod Encodes

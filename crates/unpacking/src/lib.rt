@@ -1,0 +1,28 @@
+// A packed line of points unpacked to codes, three a point in channel order (document 01, "Layout" and "Codes and floats").
+ghost use mathlib.Core.Path.{_≡_};
+ghost use lib.ListN.{length};
+ghost use Rattle.line.specs.Answer.{unpackAnswer, unpackOutput};
+use layout::Layout;
+use layout::refusal;
+use line::LineAnswer;
+
+mod field;
+mod load;
+mod points;
+
+// Unpacks a line of points to codes. Refused: 9, then 13.
+pub fn unpack_line(layout: Layout, packed: &[u8], codes: &mut [u16]) -> LineAnswer
+    ensures answer { λ r. ⌜ r ≡ unpackAnswer layout (length (now (packed .entry))) (length (now (codes .entry))) ⌝ }
+    ensures memory { λ _. ⌜ now (codes .exit) ≡ unpackOutput layout (now (packed .entry)) (now (codes .entry)) ⌝ }
+{
+    if !layout.valid() {
+        return LineAnswer::Refused(refusal::OUTSIDE);
+    }
+    let size = layout.bytes as usize;
+    let n = packed.len() / size;
+    if !((packed.len() % size == 0) & (n <= 4096) & (codes.len() == 3 * n)) {
+        return LineAnswer::Refused(refusal::WRONG_LINE_OR_OUTPUT);
+    }
+    points::all(layout, packed, codes, n);
+    LineAnswer::Points(n)
+}
