@@ -23,16 +23,16 @@ shorter v rest j e = ap (λ (x : ℕ). x / 256) e ∙ div-div-eq-div-mul v (256 
 loop-holds : tie.Need-loop-holds Inv-loop μ-loop
 loop-holds c = (omega arith, omega arith, written-none _ _ _)
 
-cast-out : tie.Need-cast-out Inv-loop μ-loop
-cast-out c = omega arith
+add-store1 : tie.Need-add-store1 Inv-loop μ-loop
+add-store1 c = omega arith
 
-add-out : tie.Need-add-out Inv-loop μ-loop
-add-out c = omega arith
+cast-store1 : tie.Need-cast-store1 Inv-loop μ-loop
+cast-store1 c = omega arith
 
-slice-write-out : tie.Need-slice-write-out Inv-loop μ-loop
-slice-write-out c =
-    let a = c .before .before .args in
-    omega (arith, ap length (c .before .loop .inv .2) ∙ length-written (a .out .now) (a .at) (byteOf (a .v)) (c .before .loop .j))
+store1-requires : tie.Need-store1-requires Inv-loop μ-loop
+store1-requires c κs =
+    let a = c .before .before .before .before .args in
+    omega (arith, ap length (c .before .before .loop .inv .2) ∙ length-written (a .out .now) (a .at) (byteOf (a .v)) (c .before .before .loop .j))
 
 add-j : tie.Need-add-j Inv-loop μ-loop
 add-j c = omega arith
@@ -42,18 +42,18 @@ loop-less c = omega arith
 
 loop-again : tie.Need-loop-again Inv-loop μ-loop
 loop-again c =
-    let a = c .before .before .args in
-    let l = c .before .loop in
-    (omega arith, shorter (a .v) (l .rest) (l .j) (l .inv .1), written-more (a .out .now) (l .out) (a .at) (byteOf (a .v)) (l .j) (l .rest % 256) (l .inv .2) (ap (λ (x : ℕ). x % 256) (l .inv .1)))
+    let a = c .before .before .before .before .before .before .before .args in
+    let l = c .before .before .before .before .before .loop in
+    (omega arith, shorter (a .v) (l .rest) (l .j) (l .inv .1), c .before .before .store1 .ensures ∙ written-more (a .out .now) (l .out) (a .at) (byteOf (a .v)) (l .j) (l .rest % 256) (l .inv .2) (ap (λ (x : ℕ). x % 256) (l .inv .1)))
 
 same-length : tie.Need-same-length Inv-loop μ-loop
 same-length c =
-    let a = c .before .before .args in
+    let a = c .before .before .before .args in
     ap length (c .before .loop .inv .2) ∙ length-written (a .out .now) (a .at) (byteOf (a .v)) (c .before .loop .j)
 
 returns : tie.Need-returns Inv-loop μ-loop
 returns c =
-    let a = c .before .before .args in
+    let a = c .before .before .before .args in
     let e : c .before .loop .j ≡ a .size = omega arith in
     c .before .loop .inv .2 ∙ ap (written (a .out .now) (a .at) (byteOf (a .v))) e
 
@@ -64,9 +64,9 @@ store-low-spec =
     Inv-loop
     μ-loop
     loop-holds
-    cast-out
-    add-out
-    slice-write-out
+    add-store1
+    cast-store1
+    store1-requires
     add-j
     loop-less
     loop-again
