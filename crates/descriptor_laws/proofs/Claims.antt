@@ -9,11 +9,12 @@ use lib.Dec.{eqb}
 use lib.ListN.{length}
 use Rattle.layout.specs.declared.Layout.{Layout}
 use Rattle.layout.specs.Layout.{validLayout}
-use Rattle.descriptor.specs.declared.Reading.the-variants.{Accepted}
-use Rattle.descriptor.specs.declared.Writing.{Writing}
-use Rattle.descriptor.specs.declared.Writing.the-variants.{Done, Refused}
-use Rattle.descriptor.specs.Descriptor.{descriptorBytes, readDescriptor, writeAnswer, writeOutput}
-use Rattle.descriptor.proofs.Answers.{done, changed}
+use Rattle.descriptor_reader.specs.declared.Reading.the-variants.{Accepted}
+use Rattle.descriptor_writer.specs.declared.Writing.{Writing}
+use Rattle.descriptor_writer.specs.declared.Writing.the-variants.{Done, Refused}
+use Rattle.descriptor_reader.specs.Reading.{readDescriptor}
+use Rattle.descriptor_writer.specs.Writing.{descriptorBytes, writeAnswer, writeOutput}
+use Rattle.descriptor_writer.proofs.Answers.{done, changed}
 use Rattle.descriptor_laws.specs.Claims.{Accepts, AcceptsNoOther, ReadsWhatWasWritten, WritesWhatWasRead, OneLayout, OneDescriptor}
 use Rattle.descriptor_laws.proofs.Written.{accepts}
 use Rattle.descriptor_laws.proofs.Read.{accepts-no-other}

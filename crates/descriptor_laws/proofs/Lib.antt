@@ -4,3 +4,4 @@ mod Samples
 mod Written
 mod Named
 mod Read
+mod Examples

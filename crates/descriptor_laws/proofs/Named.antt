@@ -10,17 +10,22 @@ use Rattle.lists.proofs.Tests.{and-left, and-right, and3, pass, stop}
 use Rattle.layout.specs.declared.Layout.{Layout}
 use Rattle.layout.specs.declared.range.Range.the-variants.{Narrow, Full}
 use Rattle.layout.specs.Layout.{rangeKnown, rangeOf, channelKnown, inside, apart, kindOf}
-use Rattle.descriptor.specs.declared.sample.Sample.{Sample}
-use Rattle.descriptor.specs.declared.sample.Samples.{Samples}
-use Rattle.descriptor.specs.Sample.{upperOf, allState, rangeIn, sampleOf, rising, samplesOf, eachOnce, offsetIn}
-use Rattle.descriptor.proofs.Right.{Right}
+use Rattle.samples.specs.declared.sample.Sample.{Sample}
+use Rattle.samples.specs.declared.samples.Samples.{Samples}
+use Rattle.descriptor_writer.specs.declared.field.Field.{Field}
+use Rattle.descriptor_writer.specs.Field.{rising, fieldsOf}
+use Rattle.samples.specs.Limits.{upperOf}
+use Rattle.samples.specs.Samples.{allState, rangeIn, eachOnce}
+use Rattle.descriptor_reader.specs.Sample.{offsetIn}
+use Rattle.descriptor_writer.specs.Sample.{sampleOf, samplesOf}
+use Rattle.descriptor_reader.proofs.Right.{Right}
 use Rattle.descriptor_laws.proofs.Order.{three}
-use Rattle.descriptor_laws.proofs.Samples.{Of}
+use Rattle.descriptor_laws.proofs.Samples.{field, sampleFor, samplesFor, rangeFrom, Of}
 
 -- ---- the range that all three state
 
-pub range-stated : (model : ℕ) (s : Samples) → eqb (rangeIn model s) 0 ≡ false
-    → (allState model (rangeOf (rangeIn model s)) (s .first .length + 1) s ≡ true) × (rangeKnown (rangeIn model s) ≡ true)
+pub range-stated : (model : ℕ) (s : Samples) → eqb (rangeFrom model s) 0 ≡ false
+    → (allState model (rangeOf (rangeFrom model s)) (s .first .length + 1) s ≡ true) × (rangeKnown (rangeFrom model s) ≡ true)
 unfolding rangeIn
 range-stated model s = go (allState model Narrow n s) (allState model Full n s) refl refl
   where
@@ -103,7 +108,7 @@ module _ (s : Samples) (k : ℕ) where
   in-third h h′ = pass _ h (pass _ h′ refl)
 
 -- the sample of a layout's channel
-own : (l : Layout) (x : Sample) (k o : ℕ) → Of l x → x .channel ≡ k → o ≡ x .offset → sampleOf l k o ≡ x
+own : (l : Layout) (x : Sample) (k o : ℕ) → Of l x → x .channel ≡ k → o ≡ x .offset → sampleFor l (field k o) ≡ x
 unfolding sampleOf
 own l x k o f c e = λ i. record {
   offset = e i;
@@ -116,7 +121,7 @@ own l x k o f c e = λ i. record {
 
 -- ---- the rising order, by the offsets
 
-module _ (a b c : Sample) where
+module _ (a b c : Field) where
   abc : a .offset < b .offset → b .offset < c .offset → rising a b c ≡ three a b c
   unfolding rising
   abc h i = stop _ (lt-ltb (a .offset) (b .offset) h) ∙ stop _ (lt-ltb (b .offset) (c .offset) i)
@@ -191,54 +196,54 @@ module _ (l : Layout) (s : Samples) (r : Right (l .bytes) s) (d : s .first .leng
     (f : Of l (s .first)) (g : Of l (s .second)) (h : Of l (s .third))
     (e0 : l .offset0 ≡ offsetIn s 0) (e1 : l .offset1 ≡ offsetIn s 1) (e2 : l .offset2 ≡ offsetIn s 2) where
   by-names : Named (s .first .channel) (s .second .channel) (s .third .channel) → Told l s
-  unfolding samplesOf
+  unfolding samplesOf fieldsOf
   by-names (n012 p q t) =
       let o0 = e0 ∙ in-first s 0 p in
       let o1 = e1 ∙ in-second s 1 (ap (λ (k : ℕ). eqb k 1) p) q in
       let o2 = e2 ∙ in-third s 2 (ap (λ (k : ℕ). eqb k 2) p) (ap (λ (k : ℕ). eqb k 2) q) in
       told l s
-      ((λ i. rising (own l (s .first) 0 (l .offset0) f p o0 i) (own l (s .second) 1 (l .offset1) g q o1 i) (own l (s .third) 2 (l .offset2) h t o2 i))
-      ∙ abc (s .first) (s .second) (s .third) (omega arith) (omega arith))
+      (ap (samplesFor l) (abc (field 0 (l .offset0)) (field 1 (l .offset1)) (field 2 (l .offset2)) (omega arith) (omega arith))
+      ∙ (λ i. record { first = own l (s .first) 0 (l .offset0) f p o0 i; second = own l (s .second) 1 (l .offset1) g q o1 i; third = own l (s .third) 2 (l .offset2) h t o2 i }))
       (omega arith) (omega arith) (omega arith) (inl (omega arith)) (inl (omega arith)) (inl (omega arith))
   by-names (n021 p q t) =
       let o0 = e0 ∙ in-first s 0 p in
       let o1 = e1 ∙ in-third s 1 (ap (λ (k : ℕ). eqb k 1) p) (ap (λ (k : ℕ). eqb k 1) q) in
       let o2 = e2 ∙ in-second s 2 (ap (λ (k : ℕ). eqb k 2) p) q in
       told l s
-      ((λ i. rising (own l (s .first) 0 (l .offset0) f p o0 i) (own l (s .third) 1 (l .offset1) h t o1 i) (own l (s .second) 2 (l .offset2) g q o2 i))
-      ∙ acb (s .first) (s .third) (s .second) (omega arith) (omega arith))
+      (ap (samplesFor l) (acb (field 0 (l .offset0)) (field 1 (l .offset1)) (field 2 (l .offset2)) (omega arith) (omega arith))
+      ∙ (λ i. record { first = own l (s .first) 0 (l .offset0) f p o0 i; second = own l (s .second) 2 (l .offset2) g q o2 i; third = own l (s .third) 1 (l .offset1) h t o1 i }))
       (omega arith) (omega arith) (omega arith) (inl (omega arith)) (inl (omega arith)) (inr (omega arith))
   by-names (n102 p q t) =
       let o0 = e0 ∙ in-second s 0 (ap (λ (k : ℕ). eqb k 0) p) q in
       let o1 = e1 ∙ in-first s 1 p in
       let o2 = e2 ∙ in-third s 2 (ap (λ (k : ℕ). eqb k 2) p) (ap (λ (k : ℕ). eqb k 2) q) in
       told l s
-      ((λ i. rising (own l (s .second) 0 (l .offset0) g q o0 i) (own l (s .first) 1 (l .offset1) f p o1 i) (own l (s .third) 2 (l .offset2) h t o2 i))
-      ∙ bac (s .second) (s .first) (s .third) (omega arith) (omega arith))
+      (ap (samplesFor l) (bac (field 0 (l .offset0)) (field 1 (l .offset1)) (field 2 (l .offset2)) (omega arith) (omega arith))
+      ∙ (λ i. record { first = own l (s .first) 1 (l .offset1) f p o1 i; second = own l (s .second) 0 (l .offset0) g q o0 i; third = own l (s .third) 2 (l .offset2) h t o2 i }))
       (omega arith) (omega arith) (omega arith) (inr (omega arith)) (inl (omega arith)) (inl (omega arith))
   by-names (n120 p q t) =
       let o0 = e0 ∙ in-third s 0 (ap (λ (k : ℕ). eqb k 0) p) (ap (λ (k : ℕ). eqb k 0) q) in
       let o1 = e1 ∙ in-first s 1 p in
       let o2 = e2 ∙ in-second s 2 (ap (λ (k : ℕ). eqb k 2) p) q in
       told l s
-      ((λ i. rising (own l (s .third) 0 (l .offset0) h t o0 i) (own l (s .first) 1 (l .offset1) f p o1 i) (own l (s .second) 2 (l .offset2) g q o2 i))
-      ∙ bca (s .third) (s .first) (s .second) (omega arith) (omega arith))
+      (ap (samplesFor l) (bca (field 0 (l .offset0)) (field 1 (l .offset1)) (field 2 (l .offset2)) (omega arith) (omega arith))
+      ∙ (λ i. record { first = own l (s .first) 1 (l .offset1) f p o1 i; second = own l (s .second) 2 (l .offset2) g q o2 i; third = own l (s .third) 0 (l .offset0) h t o0 i }))
       (omega arith) (omega arith) (omega arith) (inr (omega arith)) (inr (omega arith)) (inl (omega arith))
   by-names (n201 p q t) =
       let o0 = e0 ∙ in-second s 0 (ap (λ (k : ℕ). eqb k 0) p) q in
       let o1 = e1 ∙ in-third s 1 (ap (λ (k : ℕ). eqb k 1) p) (ap (λ (k : ℕ). eqb k 1) q) in
       let o2 = e2 ∙ in-first s 2 p in
       told l s
-      ((λ i. rising (own l (s .second) 0 (l .offset0) g q o0 i) (own l (s .third) 1 (l .offset1) h t o1 i) (own l (s .first) 2 (l .offset2) f p o2 i))
-      ∙ cab (s .second) (s .third) (s .first) (omega arith) (omega arith))
+      (ap (samplesFor l) (cab (field 0 (l .offset0)) (field 1 (l .offset1)) (field 2 (l .offset2)) (omega arith) (omega arith))
+      ∙ (λ i. record { first = own l (s .first) 2 (l .offset2) f p o2 i; second = own l (s .second) 0 (l .offset0) g q o0 i; third = own l (s .third) 1 (l .offset1) h t o1 i }))
       (omega arith) (omega arith) (omega arith) (inl (omega arith)) (inr (omega arith)) (inr (omega arith))
   by-names (n210 p q t) =
       let o0 = e0 ∙ in-third s 0 (ap (λ (k : ℕ). eqb k 0) p) (ap (λ (k : ℕ). eqb k 0) q) in
       let o1 = e1 ∙ in-second s 1 (ap (λ (k : ℕ). eqb k 1) p) q in
       let o2 = e2 ∙ in-first s 2 p in
       told l s
-      ((λ i. rising (own l (s .third) 0 (l .offset0) h t o0 i) (own l (s .second) 1 (l .offset1) g q o1 i) (own l (s .first) 2 (l .offset2) f p o2 i))
-      ∙ cba (s .third) (s .second) (s .first) (omega arith) (omega arith))
+      (ap (samplesFor l) (cba (field 0 (l .offset0)) (field 1 (l .offset1)) (field 2 (l .offset2)) (omega arith) (omega arith))
+      ∙ (λ i. record { first = own l (s .first) 2 (l .offset2) f p o2 i; second = own l (s .second) 1 (l .offset1) g q o1 i; third = own l (s .third) 0 (l .offset0) h t o0 i }))
       (omega arith) (omega arith) (omega arith) (inr (omega arith)) (inr (omega arith)) (inr (omega arith))
 
   pub told-by : Told l s

@@ -17,15 +17,20 @@ use Rattle.lists.proofs.Tests.{and-left, and-right, and3}
 use Rattle.layout.specs.declared.Layout.{Layout}
 use Rattle.layout.specs.declared.range.Range.{Range}
 use Rattle.layout.specs.Layout.{modelKnown, primariesKnown, rangeKnown, rangeOf, depthKnown, bytesKnown, kindOf, validLayout}
-use Rattle.descriptor.specs.declared.sample.Sample.{Sample}
-use Rattle.descriptor.specs.declared.sample.Samples.{Samples}
-use Rattle.descriptor.specs.declared.Reading.{Reading}
-use Rattle.descriptor.specs.declared.Reading.the-variants.{Accepted, Refused}
-use Rattle.descriptor.specs.Sample.{number, lowerOf, upperOf, states, allState, sampleBytes, sampleIn, samplesIn, rangeIn, samplesRight}
-use Rattle.descriptor.specs.Descriptor.{zeros, headerBytes, descriptorBytes, headerRight, colorRight, planesRight, layoutFrom, layoutIn, readDescriptor}
-use Rattle.descriptor.proofs.Right.{Right, right-says}
-use Rattle.descriptor.proofs.Answers.{planes-bytes}
-use Rattle.descriptor_laws.proofs.Samples.{Of}
+use Rattle.samples.specs.declared.sample.Sample.{Sample}
+use Rattle.samples.specs.declared.samples.Samples.{Samples}
+use Rattle.descriptor_reader.specs.declared.Reading.{Reading}
+use Rattle.descriptor_reader.specs.declared.Reading.the-variants.{Accepted, Refused}
+use Rattle.samples.specs.Limits.{lowerOf, upperOf}
+use Rattle.samples.specs.Samples.{states, allState, samplesRight}
+use Rattle.descriptor_reader.specs.Sample.{number, sampleIn, samplesIn}
+use Rattle.descriptor_writer.specs.Sample.{sampleBytes}
+use Rattle.descriptor_reader.specs.Header.{zeros, headerRight, colorRight, planesRight}
+use Rattle.descriptor_reader.specs.Reading.{layoutFrom, readSamples, readDescriptor}
+use Rattle.descriptor_writer.specs.Writing.{headerBytes, samplesBytes, descriptorBytes}
+use Rattle.descriptor_reader.proofs.Right.{Right, right-says}
+use Rattle.descriptor_reader.proofs.Answers.{planes-bytes}
+use Rattle.descriptor_laws.proofs.Samples.{rangeFrom, layoutIn, Of}
 use Rattle.descriptor_laws.proofs.Named.{range-stated, Told, told-by}
 use Rattle.descriptor_laws.specs.Claims.{Bytes, AcceptsNoOther}
 
@@ -41,14 +46,14 @@ record Passed (b : List ℕ) (l : Layout) : Type 0 where
   color : colorRight b ≡ true
   planes : planesRight b ≡ true
   samples : samplesRight (getD b 20 0) (samplesIn b) ≡ true
-  range : eqb (rangeIn (getD b 12 0) (samplesIn b)) 0 ≡ false
+  range : eqb (rangeFrom (getD b 12 0) (samplesIn b)) 0 ≡ false
   is : layoutIn b ≡ l
 
 all-passed : (b : List ℕ) (l : Layout) → readDescriptor b ≡ Accepted l → Passed b l
-unfolding readDescriptor
+unfolding readDescriptor readSamples
 all-passed b l e =
     let s = samplesRight (getD b 20 0) (samplesIn b) in
-    let r = eqb (rangeIn (getD b 12 0) (samplesIn b)) 0 in
+    let r = eqb (rangeFrom (getD b 12 0) (samplesIn b)) 0 in
     let x6 = cond r (Refused 6) (Accepted (layoutIn b)) in
     let x5 = cond (not s) (Refused 5) x6 in
     let x4 = cond (not (planesRight b)) (Refused 4) x5 in
@@ -186,23 +191,23 @@ module _ (b : List ℕ) (l : Layout) (p : Passed b l) where
   right : Right (getD b 20 0) (samplesIn b)
   right = right-says (getD b 20 0) (samplesIn b) (p .samples)
 
-  stated : (allState (getD b 12 0) (rangeOf (rangeIn (getD b 12 0) (samplesIn b))) (samplesIn b .first .length + 1) (samplesIn b) ≡ true)
-      × (rangeKnown (rangeIn (getD b 12 0) (samplesIn b)) ≡ true)
+  stated : (allState (getD b 12 0) (rangeOf (rangeFrom (getD b 12 0) (samplesIn b))) (samplesIn b .first .length + 1) (samplesIn b) ≡ true)
+      × (rangeKnown (rangeFrom (getD b 12 0) (samplesIn b)) ≡ true)
   stated = range-stated (getD b 12 0) (samplesIn b) (p .range)
 
   -- each sample is the layout's
   of-read : (s : Sample) → s .length ≡ samplesIn b .first .length → s .position ≡ 0
-      → states (getD b 12 0) (rangeOf (rangeIn (getD b 12 0) (samplesIn b))) (samplesIn b .first .length + 1) s ≡ true → Of (layoutIn b) s
+      → states (getD b 12 0) (rangeOf (rangeFrom (getD b 12 0) (samplesIn b))) (samplesIn b .first .length + 1) s ≡ true → Of (layoutIn b) s
   unfolding layoutFrom
   of-read s n z e =
-      let q = states-say (getD b 12 0) (rangeOf (rangeIn (getD b 12 0) (samplesIn b))) (samplesIn b .first .length + 1) s e in
+      let q = states-say (getD b 12 0) (rangeOf (rangeFrom (getD b 12 0) (samplesIn b))) (samplesIn b .first .length + 1) s e in
       record { length = omega arith; position = z; lower = q .0; upper = q .1 }
 
   told-read : Told (layoutIn b) (samplesIn b)
   unfolding layoutFrom
   told-read =
       let r = right in
-      let q = all-say (getD b 12 0) (rangeOf (rangeIn (getD b 12 0) (samplesIn b))) (samplesIn b .first .length + 1) (samplesIn b) (stated .0) in
+      let q = all-say (getD b 12 0) (rangeOf (rangeFrom (getD b 12 0) (samplesIn b))) (samplesIn b .first .length + 1) (samplesIn b) (stated .0) in
       told-by (layoutIn b) (samplesIn b) r refl
       (of-read (samplesIn b .first) refl (r .first-position) (q .0))
       (of-read (samplesIn b .second) (r .second-length) (r .second-position) (q .1))
@@ -219,7 +224,7 @@ module _ (b : List ℕ) (l : Layout) (p : Passed b l) where
       (stated .1) (right .depth) (planes-bytes b (p .planes)) told-read
 
   bytes-read : Bytes b → b ≡ descriptorBytes (layoutIn b)
-  unfolding descriptorBytes samplesIn
+  unfolding descriptorBytes samplesBytes samplesIn
   bytes-read e =
       all-slots b (p .long)
       ∙ sym ((λ j. header-slots b e (p .header) (p .color) (p .planes) j ++ (sample-slots b e 28 j ++ (sample-slots b e 44 j ++ sample-slots b e 60 j))))

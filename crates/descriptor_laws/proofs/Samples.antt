@@ -5,7 +5,9 @@ use mathlib.Core.Logic.{inl, inr}
 use Prim.Native.Nat.{ℕ, _+_, _-_, _*_, _≤_}
 use native.Mathlib.Omega.{arith}
 use borrow.Author.Tests.{eqb-true, leb-true, eq-eqb, ne-eqb, le-leb}
+use mathlib.Core.List.{List}
 use lib.Dec.{eqb, leb}
+use lib.ListN.{getD}
 use Rattle.lists.proofs.Tests.{or-cases, pass, stop}
 use Rattle.layout.specs.declared.Layout.{Layout}
 use Rattle.layout.specs.declared.range.Range.{Range}
@@ -13,11 +15,18 @@ use Rattle.layout.specs.declared.range.Range.the-variants.{Narrow, Full}
 use Rattle.layout.specs.Layout.{rangeOf, depthKnown, stepOf, kindOf, apart}
 use Rattle.layout.proofs.Depths.{steps}
 use Rattle.layout.proofs.Facts.{Valid}
-use Rattle.descriptor.specs.declared.sample.Sample.{Sample}
-use Rattle.descriptor.specs.declared.sample.Samples.{Samples}
-use Rattle.descriptor.specs.Sample.{lowerOf, upperOf, states, allState, rangeIn, sampleOf, samplesOf, eachOnce, samplesRight, offsetIn}
-use Rattle.descriptor.proofs.Right.{Right}
-use Rattle.descriptor_laws.proofs.Order.{three, rising-by, rising-all}
+use Rattle.samples.specs.declared.sample.Sample.{Sample}
+use Rattle.samples.specs.declared.samples.Samples.{Samples}
+use Rattle.samples.specs.Limits.{lowerOf, upperOf}
+use Rattle.descriptor_writer.specs.declared.field.Field.{Field}
+use Rattle.descriptor_writer.specs.declared.field.Fields.{Fields}
+use Rattle.descriptor_writer.specs.Field.{fieldsOf}
+use Rattle.descriptor_reader.specs.Reading.{layoutFrom}
+use Rattle.samples.specs.Samples.{states, allState, rangeIn, eachOnce, samplesRight}
+use Rattle.descriptor_reader.specs.Sample.{samplesIn, offsetIn}
+use Rattle.descriptor_writer.specs.Sample.{sampleOf, samplesOf}
+use Rattle.descriptor_reader.proofs.Right.{Right}
+use Rattle.descriptor_laws.proofs.Order.{three, rising-by}
 
 -- all that a sample of a layout says but its channel and offset
 pub record Of (l : Layout) (s : Sample) : Type 0 where
@@ -26,15 +35,33 @@ pub record Of (l : Layout) (s : Sample) : Type 0 where
   pub lower : s .lower ≡ lowerOf (rangeOf (l .range)) (l .depth)
   pub upper : s .upper ≡ upperOf (rangeOf (l .range)) (l .depth) (kindOf (l .model) (s .channel))
 
-of-sample : (l : Layout) (channel offset : ℕ) → Of l (sampleOf l channel offset)
+-- a field of a channel
+abbrev pub field : ℕ → ℕ → Field
+field channel offset = record { channel = channel; offset = offset }
+
+-- its sample
+abbrev pub sampleFor : Layout → Field → Sample
+sampleFor l f = sampleOf (l .model) (rangeOf (l .range)) (l .depth) f
+
+-- the samples of three fields
+abbrev pub samplesFor : Layout → Fields → Samples
+samplesFor l f = record { first = sampleFor l (f .first); second = sampleFor l (f .second); third = sampleFor l (f .third) }
+
+of-sample : (l : Layout) (f : Field) → Of l (sampleFor l f)
 unfolding sampleOf
-of-sample l channel offset = record { length = refl; position = refl; lower = refl; upper = refl }
+of-sample l f = record { length = refl; position = refl; lower = refl; upper = refl }
 
 pub of-samples : (l : Layout) → Of l (samplesOf l .first) × Of l (samplesOf l .second) × Of l (samplesOf l .third)
 unfolding samplesOf
-of-samples l =
-    rising-all (Of l) (sampleOf l 0 (l .offset0)) (sampleOf l 1 (l .offset1)) (sampleOf l 2 (l .offset2))
-    (of-sample l 0 (l .offset0)) (of-sample l 1 (l .offset1)) (of-sample l 2 (l .offset2))
+of-samples l = (of-sample l (fieldsOf l .first), of-sample l (fieldsOf l .second), of-sample l (fieldsOf l .third))
+
+-- the range that samples state at their own depth
+abbrev pub rangeFrom : ℕ → Samples → ℕ
+rangeFrom model s = rangeIn model (s .first .length + 1) s
+
+-- the layout that the bytes hold
+abbrev pub layoutIn : List ℕ → Layout
+layoutIn b = layoutFrom (getD b 12 0) (getD b 13 0) (rangeFrom (getD b 12 0) (samplesIn b)) (getD b 20 0) (samplesIn b)
 
 -- ---- right
 
@@ -79,7 +106,7 @@ module _ (l : Layout) (v : Valid l) where
 
   -- in one order
   right-three : (c d e x y z : ℕ) → eachOnce c d e ≡ true → x + l .depth ≤ y → y + l .depth ≤ z → z + l .depth ≤ 8 * l .bytes
-      → Right (l .bytes) (three (sampleOf l c x) (sampleOf l d y) (sampleOf l e z))
+      → Right (l .bytes) (samplesFor l (three (field c x) (field d y) (field e z)))
   unfolding sampleOf
   right-three c d e x y z once h i j =
       let q = depth-again in
@@ -97,7 +124,7 @@ module _ (l : Layout) (v : Valid l) where
       }
 
   pub right-samples : samplesRight (l .bytes) (samplesOf l) ≡ true
-  unfolding samplesOf sampleOf
+  unfolding samplesOf sampleOf fieldsOf
   right-samples =
       let n = l .depth in
       let least : 1 ≤ n = omega (arith, v .depth-least) in
@@ -105,7 +132,7 @@ module _ (l : Layout) (v : Valid l) where
       let y = l .offset1 in
       let z = l .offset2 in
       says-right (l .bytes) (samplesOf l)
-      (rising-by (Right (l .bytes)) (sampleOf l 0 x) (sampleOf l 1 y) (sampleOf l 2 z)
+      (rising-by (λ (f : Fields). Right (l .bytes) (samplesFor l f)) (field 0 x) (field 1 y) (field 2 z)
       (λ h i. right-three 0 1 2 x y z refl (below x y n (v .apart01) least h) (below y z n (v .apart12) least i) (v .inside2))
       (λ h i. right-three 0 2 1 x z y refl (below x z n (v .apart02) least h) (above y z n (v .apart12) least i) (v .inside1))
       (λ h i. right-three 2 0 1 z x y refl (above x z n (v .apart02) least h) (below x y n (v .apart01) least i) (v .inside1))
@@ -140,7 +167,7 @@ module _ (l : Layout) (v : Valid l) where
       let differs : eqb (s .lower) (16 * stepOf (l .depth)) ≡ false = ne-eqb (s .lower) (16 * stepOf (l .depth)) (λ q. omega (arith, t .least)) in
       rw differs
 
-  pub range-samples : rangeIn (l .model) (samplesOf l) ≡ l .range
+  pub range-samples : rangeFrom (l .model) (samplesOf l) ≡ l .range
   unfolding rangeIn
   range-samples = elim (or-cases (eqb (l .range) 1) (eqb (l .range) 2) (v .range)) [
     | inl q ↦
@@ -157,9 +184,9 @@ module _ (l : Layout) (v : Valid l) where
 -- ---- the offsets
 
 pub offsets : (l : Layout) → (offsetIn (samplesOf l) 0 ≡ l .offset0) × (offsetIn (samplesOf l) 1 ≡ l .offset1) × (offsetIn (samplesOf l) 2 ≡ l .offset2)
-unfolding samplesOf sampleOf offsetIn
+unfolding samplesOf sampleOf fieldsOf offsetIn
 offsets l =
-    rising-by (λ (s : Samples). (offsetIn s 0 ≡ l .offset0) × (offsetIn s 1 ≡ l .offset1) × (offsetIn s 2 ≡ l .offset2))
-    (sampleOf l 0 (l .offset0)) (sampleOf l 1 (l .offset1)) (sampleOf l 2 (l .offset2))
+    rising-by (λ (f : Fields). let s = samplesFor l f in (offsetIn s 0 ≡ l .offset0) × (offsetIn s 1 ≡ l .offset1) × (offsetIn s 2 ≡ l .offset2))
+    (field 0 (l .offset0)) (field 1 (l .offset1)) (field 2 (l .offset2))
     (λ h i. (refl, refl, refl)) (λ h i. (refl, refl, refl)) (λ h i. (refl, refl, refl))
     (λ h i. (refl, refl, refl)) (λ h i. (refl, refl, refl)) (λ h i. (refl, refl, refl))

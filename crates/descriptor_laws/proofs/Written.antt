@@ -18,14 +18,21 @@ use Rattle.layout.specs.declared.kind.Kind.the-variants.{Brightness, Difference
 use Rattle.layout.specs.Layout.{rangeOf, bytesKnown, kindOf}
 use Rattle.layout.proofs.Depths.{Steps, steps}
 use Rattle.layout.proofs.Facts.{Valid, valid-says}
-use Rattle.descriptor.specs.declared.sample.Sample.{Sample}
-use Rattle.descriptor.specs.declared.sample.Samples.{Samples}
-use Rattle.descriptor.specs.declared.Reading.the-variants.{Accepted}
-use Rattle.descriptor.specs.Sample.{lowerOf, upperOf, sampleBytes, sampleIn, samplesIn, rangeIn, sampleOf, samplesOf, samplesRight}
-use Rattle.descriptor.specs.Descriptor.{headerBytes, descriptorBytes, headerRight, colorRight, planesRight, layoutFrom, layoutIn, readDescriptor}
-use Rattle.descriptor.proofs.Answers.{accepted}
+use Rattle.samples.specs.declared.sample.Sample.{Sample}
+use Rattle.samples.specs.declared.samples.Samples.{Samples}
+use Rattle.descriptor_reader.specs.declared.Reading.the-variants.{Accepted}
+use Rattle.descriptor_writer.specs.declared.field.Field.{Field}
+use Rattle.descriptor_writer.specs.Field.{fieldsOf}
+use Rattle.samples.specs.Limits.{lowerOf, upperOf}
+use Rattle.samples.specs.Samples.{samplesRight}
+use Rattle.descriptor_reader.specs.Sample.{sampleIn, samplesIn}
+use Rattle.descriptor_writer.specs.Sample.{sampleBytes, sampleOf, samplesOf}
+use Rattle.descriptor_reader.specs.Header.{headerRight, colorRight, planesRight}
+use Rattle.descriptor_reader.specs.Reading.{layoutFrom, readDescriptor}
+use Rattle.descriptor_writer.specs.Writing.{headerBytes, samplesBytes, descriptorBytes}
+use Rattle.descriptor_reader.proofs.Answers.{accepted, samples-decide}
 use Rattle.descriptor_laws.proofs.Order.{rising-all}
-use Rattle.descriptor_laws.proofs.Samples.{Of, of-samples, right-samples, range-samples, offsets}
+use Rattle.descriptor_laws.proofs.Samples.{field, rangeFrom, layoutIn, Of, of-samples, right-samples, range-samples, offsets}
 use Rattle.descriptor_laws.specs.Claims.{Accepts}
 
 -- what reading k bytes of a number gives
@@ -62,7 +69,7 @@ again-is s f =
 
 again-in : (l : Layout) → samplesIn (descriptorBytes l)
     ≡ (record { first = again (samplesOf l .first); second = again (samplesOf l .second); third = again (samplesOf l .third) })
-unfolding descriptorBytes headerBytes sampleBytes bytesOf samplesIn sampleIn
+unfolding descriptorBytes samplesBytes headerBytes sampleBytes bytesOf samplesIn sampleIn
 again-in l = refl
 
 module _ (l : Layout) (v : Valid l) where
@@ -88,9 +95,9 @@ module _ (l : Layout) (v : Valid l) where
       }
 
   inside-samples : (samplesOf l .first .offset + l .depth ≤ 8 * l .bytes) × (samplesOf l .second .offset + l .depth ≤ 8 * l .bytes) × (samplesOf l .third .offset + l .depth ≤ 8 * l .bytes)
-  unfolding samplesOf sampleOf
+  unfolding samplesOf sampleOf fieldsOf
   inside-samples =
-      rising-all (λ (s : Sample). s .offset + l .depth ≤ 8 * l .bytes) (sampleOf l 0 (l .offset0)) (sampleOf l 1 (l .offset1)) (sampleOf l 2 (l .offset2))
+      rising-all (λ (f : Field). f .offset + l .depth ≤ 8 * l .bytes) (field 0 (l .offset0)) (field 1 (l .offset1)) (field 2 (l .offset2))
       (v .inside0) (v .inside1) (v .inside2)
 
   -- the samples come back
@@ -107,36 +114,36 @@ module _ (l : Layout) (v : Valid l) where
       refl
 
   -- and with them the layout
-  layout-again : layoutFrom (l .model) (l .primaries) (rangeIn (l .model) (samplesOf l)) (l .bytes) (samplesOf l) ≡ l
+  layout-again : layoutFrom (l .model) (l .primaries) (rangeFrom (l .model) (samplesOf l)) (l .bytes) (samplesOf l) ≡ l
   unfolding layoutFrom
   layout-again =
       let o = offsets l in
       let n : samplesOf l .first .length + 1 ≡ l .depth = ap (λ (k : ℕ). k + 1) (of-samples l .0 .length) ∙ omega (arith, v .depth-least) in
-      rw (n, range-samples l v, o .0, o .1, o .2) refl
+      rw (range-samples l v, n, o .0, o .1, o .2) refl
 
   -- no row applies
   header-is : headerRight (descriptorBytes l) ≡ true
-  unfolding headerRight descriptorBytes headerBytes sampleBytes bytesOf
+  unfolding headerRight descriptorBytes samplesBytes headerBytes sampleBytes bytesOf
   header-is = refl
 
   color-is : colorRight (descriptorBytes l) ≡ true
-  unfolding colorRight descriptorBytes headerBytes sampleBytes bytesOf
+  unfolding colorRight descriptorBytes samplesBytes headerBytes sampleBytes bytesOf
   color-is = rw (v .model, v .primaries) refl
 
   bytes-is : bytesKnown (l .bytes) ≡ true
   bytes-is = ap₂ _&&_ (le-leb 3 (l .bytes) (v .bytes-least)) (le-leb (l .bytes) 8 (v .bytes-most))
 
   planes-is : planesRight (descriptorBytes l) ≡ true
-  unfolding planesRight descriptorBytes headerBytes sampleBytes bytesOf
+  unfolding planesRight descriptorBytes samplesBytes headerBytes sampleBytes bytesOf
   planes-is = rw bytes-is refl
 
   right-is : samplesRight (getD (descriptorBytes l) 20 0) (samplesIn (descriptorBytes l)) ≡ true
-  unfolding descriptorBytes headerBytes sampleBytes bytesOf
+  unfolding descriptorBytes samplesBytes headerBytes sampleBytes bytesOf
   right-is = ap (samplesRight (l .bytes)) samples-again ∙ right-samples l v
 
-  range-is : rangeIn (getD (descriptorBytes l) 12 0) (samplesIn (descriptorBytes l)) ≡ l .range
-  unfolding descriptorBytes headerBytes sampleBytes bytesOf
-  range-is = ap (rangeIn (l .model)) samples-again ∙ range-samples l v
+  range-is : rangeFrom (getD (descriptorBytes l) 12 0) (samplesIn (descriptorBytes l)) ≡ l .range
+  unfolding descriptorBytes samplesBytes headerBytes sampleBytes bytesOf
+  range-is = ap (rangeFrom (l .model)) samples-again ∙ range-samples l v
 
   range-stated : eqb (l .range) 0 ≡ false
   range-stated = elim (or-cases (eqb (l .range) 1) (eqb (l .range) 2) (v .range)) [
@@ -145,16 +152,20 @@ module _ (l : Layout) (v : Valid l) where
   ]
 
   layout-is : layoutIn (descriptorBytes l) ≡ l
-  unfolding descriptorBytes headerBytes sampleBytes bytesOf
-  layout-is = ap (λ (s : Samples). layoutFrom (l .model) (l .primaries) (rangeIn (l .model) s) (l .bytes) s) samples-again ∙ layout-again
+  unfolding descriptorBytes samplesBytes headerBytes sampleBytes bytesOf
+  layout-is = ap (λ (s : Samples). layoutFrom (l .model) (l .primaries) (rangeFrom (l .model) s) (l .bytes) s) samples-again ∙ layout-again
 
   length-is : eqb (length (descriptorBytes l)) 76 ≡ true
-  unfolding descriptorBytes headerBytes sampleBytes bytesOf
+  unfolding descriptorBytes samplesBytes headerBytes sampleBytes bytesOf
   length-is = refl
 
   read-descriptor : readDescriptor (descriptorBytes l) ≡ Accepted l
   read-descriptor =
-      sym (accepted (descriptorBytes l) length-is header-is color-is planes-is right-is (ap (λ (r : ℕ). eqb r 0) range-is ∙ range-stated)) ∙ ap Accepted layout-is
+      let b = descriptorBytes l in
+      sym
+      (accepted (getD b 12 0) (getD b 13 0) (getD b 20 0) (samplesIn b) right-is (ap (λ (r : ℕ). eqb r 0) range-is ∙ range-stated)
+      ∙ samples-decide b length-is header-is color-is planes-is)
+      ∙ ap Accepted layout-is
 
 pub accepts : Accepts
 accepts l e = read-descriptor l (valid-says l e)

@@ -1,4 +1,4 @@
--- What is claimed of descriptors, of the definitions that the contracts of `descriptor::read` and `descriptor::write` cite. proofs/Claims.antt proves each. Assumes nothing.
+-- What is claimed of descriptors, of the definitions that the contracts of `descriptor_reader::read` and `descriptor_writer::write` cite. proofs/Claims.antt proves each. Assumes nothing.
 use Prim.Native.Nat.{ℕ}
 use mathlib.Core.Bool.{true}
 use mathlib.Core.Path.{_≡_}
@@ -8,9 +8,10 @@ use lib.ListN.{length}
 use Rattle.lists.specs.Lists.{every}
 use Rattle.layout.specs.declared.Layout.{Layout}
 use Rattle.layout.specs.Layout.{validLayout}
-use Rattle.descriptor.specs.declared.Reading.the-variants.{Accepted}
-use Rattle.descriptor.specs.declared.Writing.the-variants.{Done}
-use Rattle.descriptor.specs.Descriptor.{descriptorBytes, readDescriptor, writeAnswer, writeOutput}
+use Rattle.descriptor_reader.specs.declared.Reading.the-variants.{Accepted}
+use Rattle.descriptor_writer.specs.declared.Writing.the-variants.{Done}
+use Rattle.descriptor_reader.specs.Reading.{readDescriptor}
+use Rattle.descriptor_writer.specs.Writing.{descriptorBytes, writeAnswer, writeOutput}
 
 -- every element is a byte
 abbrev pub Bytes : List ℕ → Type 0

@@ -7,10 +7,10 @@ use Rattle.quantization.specs.declared.Dequantized.{Dequantized}
 use Rattle.quantization.specs.declared.Dequantized.the-variants.{Brightness, Difference, Refused as NoValue}
 use Rattle.quantization.specs.declared.Quantized.{Quantized}
 use Rattle.quantization.specs.declared.Quantized.the-variants.{Code, Refused as NoCode}
-use Rattle.descriptor.specs.declared.Reading.{Reading}
-use Rattle.descriptor.specs.declared.Reading.the-variants.{Accepted, Refused as NoLayout}
-use Rattle.descriptor.specs.declared.Writing.{Writing}
-use Rattle.descriptor.specs.declared.Writing.the-variants.{Done, Refused as NotWritten}
+use Rattle.descriptor_reader.specs.declared.Reading.{Reading}
+use Rattle.descriptor_reader.specs.declared.Reading.the-variants.{Accepted, Refused as NoLayout}
+use Rattle.descriptor_writer.specs.declared.Writing.{Writing}
+use Rattle.descriptor_writer.specs.declared.Writing.the-variants.{Done, Refused as NotWritten}
 use Rattle.line.specs.declared.LineAnswer.{LineAnswer}
 use Rattle.line.specs.declared.LineAnswer.the-variants.{Points, Refused as NoLine}
 use Rattle.imurraqi.specs.Layouts.{layoutBytes}

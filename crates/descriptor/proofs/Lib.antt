@@ -1,4 +1,0 @@
-pub mod Right
-pub mod Answers
-pub mod Parts
-pub mod Examples

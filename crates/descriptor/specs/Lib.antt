@@ -1,2 +1,0 @@
-pub mod Sample
-pub mod Descriptor

@@ -1,0 +1,75 @@
+-- `descriptor_reader::sample::told` meets its contract, row by row. Assumes nothing.
+use mathlib.Core.Path.{_≡_, sym, ap, _∙_, subst}
+use mathlib.Core.Bool.{true, false}
+use Prim.Native.Nat.{ℕ, _+_}
+use lib.Dec.{eqb}
+use borrow.Author.Tests.{eq-eqb, ne-eqb, not-true, not-false}
+use Rattle.layout.specs.Layout.{bitsOf}
+use Rattle.layout.proofs.Depths.{known-bits}
+use Rattle.samples.specs.Samples.{samplesRight, rangeIn}
+use Rattle.descriptor_reader.proofs.Right.{right-says, length-lt}
+use Rattle.descriptor_reader.specs.declared.Reading.the-variants.{Accepted}
+use Rattle.descriptor_reader.specs.Reading.{layoutFrom}
+use Rattle.descriptor_reader.proofs.Answers.{refused-5, refused-6, accepted}
+use borrow.Author.Needs.{needs}
+use Rattle.descriptor_reader.proofs.sample.told.Statement.{statement}
+use Rattle.descriptor_reader.proofs.sample.told.Tie as tie
+
+right : (c : tie.Else1) → let a = c .before .before .args in samplesRight (a .bytes) (a .samples) ≡ true
+right c = sym (c .before .right .ensures) ∙ not-false (c .before .right .result) (c .if1 .left)
+
+-- the range's number, at the samples' own depth
+ranged : (c : tie.After-range) → let a = c .before .before .before .before .args in c .range .result ≡ rangeIn (a .model) (a .samples .first .length + 1) (a .samples)
+ranged c =
+    let a = c .before .before .before .before .args in
+    c .range .ensures
+    ∙ ap (λ (n : ℕ). rangeIn (a .model) n (a .samples))
+    (ap bitsOf (c .before .of .ensures) ∙ known-bits (a .samples .first .length + 1) (right-says (a .bytes) (a .samples) (right (c .before .before)) .depth))
+
+right-requires : tie.Need-right-requires
+right-requires c κs = search needs
+
+returns : tie.Need-returns
+returns c =
+    let a = c .before .before .args in
+    refused-5 (a .model) (a .primaries) (a .bytes) (a .samples) (sym (c .before .right .ensures) ∙ not-true (c .before .right .result) (c .if1 .taken))
+
+add-of : tie.Need-add-of
+add-of c = let a = c .before .before .args in record { fits = length-lt (a .bytes) (a .samples) (right c) }
+
+of-requires : tie.Need-of-requires
+of-requires c κs = search needs
+
+range-requires : tie.Need-range-requires
+range-requires c κs = search needs
+
+returns-2 : tie.Need-returns-2
+returns-2 c =
+    let a = c .before .before .before .before .before .args in
+    refused-6 (a .model) (a .primaries) (a .bytes) (a .samples) (right (c .before .before .before))
+    (subst (λ (k : ℕ). eqb k 0 ≡ true) (ranged (c .before)) (eq-eqb (c .before .range .result) 0 (c .if2 .taken)))
+
+layout-from-requires : tie.Need-layout-from-requires
+layout-from-requires c κs = (c .before .before .before .before .before .pre, right (c .before .before .before))
+
+returns-3 : tie.Need-returns-3
+returns-3 c =
+    let e = c .before in
+    let a = e .before .before .before .before .before .args in
+    let q = ranged (e .before) in
+    ap Accepted (c .layout-from .ensures ∙ ap (λ (r : ℕ). layoutFrom (a .model) (a .primaries) r (a .bytes) (a .samples)) q)
+    ∙ accepted (a .model) (a .primaries) (a .bytes) (a .samples) (right (e .before .before .before))
+    (subst (λ (k : ℕ). eqb k 0 ≡ false) q (ne-eqb (e .before .range .result) 0 (e .if2 .left)))
+
+pub told-spec : {M : Type 1} → statement M
+told-spec =
+    tie.close
+    (tie.spec
+    right-requires
+    returns
+    add-of
+    of-requires
+    range-requires
+    returns-2
+    layout-from-requires
+    returns-3)

@@ -1,0 +1,3 @@
+pub mod Sample
+pub mod Header
+pub mod Reading

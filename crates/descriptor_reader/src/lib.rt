@@ -1,0 +1,34 @@
+// A descriptor read: 76 bytes that tell a layout (document 01, "Descriptor").
+ghost use mathlib.Core.Path.{_≡_};
+ghost use Rattle.descriptor_reader.specs.Reading.{readDescriptor};
+use layout::Layout;
+use layout::refusal;
+
+mod header;
+mod number;
+mod sample;
+
+// The layout that a descriptor tells, or the refusal's number.
+pub enum Reading {
+    Accepted(Layout),
+    Refused(u8),
+}
+
+// The layout that the bytes tell. Refused: 1 to 6, in this order.
+pub fn read(bytes: &[u8]) -> Reading
+    ensures answer { λ r. ⌜ r ≡ readDescriptor (now (bytes .entry)) ⌝ }
+{
+    if bytes.len() != 76 {
+        return Reading::Refused(refusal::WRONG_LENGTH);
+    }
+    if !header::header_right(bytes) {
+        return Reading::Refused(refusal::WRONG_HEADER);
+    }
+    if !header::color_right(bytes) {
+        return Reading::Refused(refusal::WRONG_COLOR);
+    }
+    if !header::planes_right(bytes) {
+        return Reading::Refused(refusal::WRONG_PLANES);
+    }
+    sample::told(bytes[12], bytes[13], bytes[20], sample::samples_in(bytes))
+}

@@ -1,0 +1,39 @@
+-- The samples of a layout: document 01, "Descriptor". Assumes nothing.
+use Prim.Native.Nat.{ℕ, _-_}
+use mathlib.Core.List.{List, _∷_, _++_}
+use Rattle.lists.specs.Bytes.{bytesOf}
+use Rattle.layout.specs.declared.Layout.{Layout}
+use Rattle.layout.specs.declared.range.Range.{Range}
+use Rattle.layout.specs.Layout.{rangeOf, kindOf}
+use Rattle.samples.specs.declared.sample.Sample.{Sample}
+use Rattle.samples.specs.declared.samples.Samples.{Samples}
+use Rattle.samples.specs.Limits.{lowerOf, upperOf}
+use Rattle.descriptor_writer.specs.declared.field.Field.{Field}
+use Rattle.descriptor_writer.specs.Field.{fieldsOf}
+
+-- of one field of n bits
+unfoldable pub sampleOf : ℕ → Range → ℕ → Field → Sample
+sampleOf model range n field =
+    record {
+      offset = field .offset;
+      length = n - 1;
+      channel = field .channel;
+      position = 0;
+      lower = lowerOf range n;
+      upper = upperOf range n (kindOf model (field .channel));
+    }
+
+-- of all three, in rising bit offset
+unfoldable pub samplesOf : Layout → Samples
+samplesOf l =
+    let fields = fieldsOf l in
+    let of = sampleOf (l .model) (rangeOf (l .range)) (l .depth) in
+    record { first = of (fields .first); second = of (fields .second); third = of (fields .third) }
+
+-- ---- a sample's 16 bytes
+
+-- bit offset (u16), n - 1 (u8), channel number (u8), four position bytes, lower (u32), upper (u32)
+unfoldable pub sampleBytes : Sample → List ℕ
+sampleBytes s =
+    bytesOf (s .offset) 2
+    ++ (s .length ∷ s .channel ∷ (bytesOf (s .position) 4 ++ (bytesOf (s .lower) 4 ++ bytesOf (s .upper) 4)))

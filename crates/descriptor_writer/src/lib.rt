@@ -1,0 +1,35 @@
+// A descriptor written: the 76 bytes that tell a layout (document 01, "Descriptor").
+ghost use mathlib.Core.Path.{_≡_};
+ghost use Rattle.descriptor_writer.specs.Writing.{writeAnswer, writeOutput};
+use layout::Layout;
+use layout::refusal;
+
+mod bytes;
+mod field;
+mod store;
+
+pub use field::Field;
+pub use field::Fields;
+
+// That a descriptor was written, or the refusal's number.
+pub enum Writing {
+    Done,
+    Refused(u8),
+}
+
+// Writes the descriptor of a layout. Refused: 9, then 13; `out` is then as it was.
+pub fn write(layout: Layout, out: &mut [u8]) -> Writing
+    ensures answer { λ r. ⌜ r ≡ writeAnswer layout (now (out .entry)) ⌝ }
+    ensures memory { λ r. ⌜ now (out .exit) ≡ writeOutput layout (now (out .entry)) ⌝ }
+{
+    if !layout.valid() {
+        return Writing::Refused(refusal::OUTSIDE);
+    }
+    if out.len() != 76 {
+        return Writing::Refused(refusal::WRONG_LINE_OR_OUTPUT);
+    }
+    let header = bytes::header_bytes(layout);
+    store::put(&header, 0, out);
+    store::put_samples(layout, out);
+    Writing::Done
+}
