@@ -41,7 +41,7 @@ field channel offset = record { channel = channel; offset = offset }
 
 -- its sample
 abbrev pub sampleFor : Layout → Field → Sample
-sampleFor l f = sampleOf (l .model) (rangeOf (l .range)) (l .depth) f
+sampleFor l f = sampleOf l f
 
 -- the samples of three fields
 abbrev pub samplesFor : Layout → Fields → Samples

@@ -1,11 +1,12 @@
 -- The answers of reading, by the tests that lead to them. Assumes nothing.
-use mathlib.Core.Path.{_≡_, refl, sym, ap}
+use mathlib.Core.Path.{_≡_, refl, sym, ap, _∙_}
 use mathlib.Core.Bool.{true, false, not, _&&_}
 use mathlib.Core.List.{List}
 use Prim.Native.Nat.{ℕ, _+_}
 use lib.Dec.{eqb}
 use lib.ListN.{length, getD}
 use Rattle.lists.proofs.Tests.{and-left, and-right, pass, stop}
+use Rattle.layout.specs.declared.Layout.{Layout}
 use Rattle.layout.specs.Layout.{bytesKnown}
 use Rattle.samples.specs.declared.samples.Samples.{Samples}
 use Rattle.samples.specs.Samples.{samplesRight, rangeIn}
@@ -58,3 +59,9 @@ module _ (model primaries bytes : ℕ) (s : Samples) where
         → Accepted (layoutFrom model primaries (rangeIn model (s .first .length + 1) s) bytes s) ≡ readSamples model primaries bytes s
     unfolding readSamples
     accepted e = sym (pass _ (ap not r) (pass _ e refl))
+
+    -- the same, of a number and a layout that were worked out
+    pub accepted-as : (range : ℕ) (l : Layout) → range ≡ rangeIn model (s .first .length + 1) s → eqb range 0 ≡ false
+        → l ≡ layoutFrom model primaries range bytes s → Accepted l ≡ readSamples model primaries bytes s
+    accepted-as range l e z q =
+        ap Accepted (q ∙ ap (λ (r : ℕ). layoutFrom model primaries r bytes s) e) ∙ accepted (ap (λ (r : ℕ). eqb r 0) (sym e) ∙ z)

@@ -1,8 +1,7 @@
 -- Parts stored one after the other, and the descriptor's parts. Assumes nothing.
 use mathlib.Core.Path.{_≡_, refl, sym, ap, ap₂, _∙_}
-use mathlib.Core.Bool.{true}
 use mathlib.Core.List.{List, _++_, append-assoc}
-use Prim.Native.Nat.{ℕ, _+_, _<_}
+use Prim.Native.Nat.{ℕ, _+_}
 use native.Mathlib.Nat.{zero-add, add-zero}
 use lib.ListN.{length, getD, length-append, List·getD-append}
 use lib.Seq.{getD-append-add}
@@ -11,11 +10,6 @@ use Rattle.lists.specs.Bytes.{bytesOf}
 use Rattle.lists.proofs.Lists.{is-tabulate, written-none, written-join}
 use Rattle.lists.proofs.Filled.{Filled, filled-all}
 use Rattle.layout.specs.declared.Layout.{Layout}
-use Rattle.layout.specs.declared.range.Range.{Range}
-use Rattle.layout.specs.declared.depth.Depth.{Depth}
-use Rattle.layout.specs.Layout.{rangeOf, depthKnown, depthOf, bitsOf}
-use Rattle.layout.proofs.Depths.{known-bits}
-use Rattle.descriptor_writer.specs.declared.field.Field.{Field}
 use Rattle.descriptor_writer.specs.declared.field.Fields.{Fields}
 use Rattle.samples.specs.declared.sample.Sample.{Sample}
 use Rattle.descriptor_writer.specs.Field.{fieldsOf}
@@ -58,25 +52,22 @@ unfolding descriptorBytes samplesBytes headerBytes sampleBytes bytesOf
 length-descriptor l = refl
 
 -- the three samples
-pub samples-stored : (l : Layout) (r : Range) (d : Depth) (f : Fields) (out x1 x2 x3 : List ℕ)
-    → depthKnown (l .depth) ≡ true → r ≡ rangeOf (l .range) → d ≡ depthOf (l .depth) → f ≡ fieldsOf l
-    → x1 ≡ stored out 28 (sampleBytes (sampleOf (l .model) r (bitsOf d) (f .first)))
-    → x2 ≡ stored x1 44 (sampleBytes (sampleOf (l .model) r (bitsOf d) (f .second)))
-    → x3 ≡ stored x2 60 (sampleBytes (sampleOf (l .model) r (bitsOf d) (f .third)))
+pub samples-stored : (l : Layout) (f : Fields) (out x1 x2 x3 : List ℕ) → f ≡ fieldsOf l
+    → x1 ≡ stored out 28 (sampleBytes (sampleOf l (f .first))) → x2 ≡ stored x1 44 (sampleBytes (sampleOf l (f .second))) → x3 ≡ stored x2 60 (sampleBytes (sampleOf l (f .third)))
     → x3 ≡ stored out 28 (samplesBytes l)
 unfolding samplesBytes samplesOf
-samples-stored l r d f out x1 x2 x3 k er ed ef s1 s2 s3 =
-    let e : bitsOf d ≡ l .depth = ap bitsOf ed ∙ known-bits (l .depth) k in
+samples-stored l f out x1 x2 x3 e s1 s2 s3 =
     let s = samplesOf l in
     let a = sampleBytes (s .first) in
     let b = sampleBytes (s .second) in
     let c = sampleBytes (s .third) in
-    let q1 : x1 ≡ stored out 28 a = s1 ∙ (λ i. stored out 28 (sampleBytes (sampleOf (l .model) (er i) (e i) (ef i .first)))) in
-    let q2 : x2 ≡ stored x1 44 b = s2 ∙ (λ i. stored x1 44 (sampleBytes (sampleOf (l .model) (er i) (e i) (ef i .second)))) in
-    let q3 : x3 ≡ stored x2 60 c = s3 ∙ (λ i. stored x2 60 (sampleBytes (sampleOf (l .model) (er i) (e i) (ef i .third)))) in
+    let q1 : x1 ≡ stored out 28 a = s1 ∙ (λ i. stored out 28 (sampleBytes (sampleOf l (e i .first)))) in
+    let q2 : x2 ≡ stored x1 44 b = s2 ∙ (λ i. stored x1 44 (sampleBytes (sampleOf l (e i .second)))) in
+    let q3 : x3 ≡ stored x2 60 c = s3 ∙ (λ i. stored x2 60 (sampleBytes (sampleOf l (e i .third)))) in
     q3
-    ∙ ap₂ (λ (zs : List ℕ) (m : ℕ). stored zs m c) (q2 ∙ ap₂ (λ (zs : List ℕ) (m : ℕ). stored zs (28 + m) b) q1 (sym (length-sample (s .first)))
-    ∙ stored-join out a b 28) (ap (λ (m : ℕ). 28 + m) (sym (two a b (length-sample (s .first)) (length-sample (s .second)))))
+    ∙ ap₂ (λ (zs : List ℕ) (m : ℕ). stored zs m c)
+    (q2 ∙ ap₂ (λ (zs : List ℕ) (m : ℕ). stored zs (28 + m) b) q1 (sym (length-sample (s .first))) ∙ stored-join out a b 28)
+    (ap (λ (m : ℕ). 28 + m) (sym (two a b (length-sample (s .first)) (length-sample (s .second)))))
     ∙ stored-join out (a ++ b) c 28 ∙ ap (stored out 28) (append-assoc a b c)
   where
     two : (a b : List ℕ) → length a ≡ 16 → length b ≡ 16 → length (a ++ b) ≡ 32

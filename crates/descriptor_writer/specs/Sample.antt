@@ -3,7 +3,6 @@ use Prim.Native.Nat.{ℕ, _-_}
 use mathlib.Core.List.{List, _∷_, _++_}
 use Rattle.lists.specs.Bytes.{bytesOf}
 use Rattle.layout.specs.declared.Layout.{Layout}
-use Rattle.layout.specs.declared.range.Range.{Range}
 use Rattle.layout.specs.Layout.{rangeOf, kindOf}
 use Rattle.samples.specs.declared.sample.Sample.{Sample}
 use Rattle.samples.specs.declared.samples.Samples.{Samples}
@@ -11,24 +10,23 @@ use Rattle.samples.specs.Limits.{lowerOf, upperOf}
 use Rattle.descriptor_writer.specs.declared.field.Field.{Field}
 use Rattle.descriptor_writer.specs.Field.{fieldsOf}
 
--- of one field of n bits
-unfoldable pub sampleOf : ℕ → Range → ℕ → Field → Sample
-sampleOf model range n field =
+-- of one field
+unfoldable pub sampleOf : Layout → Field → Sample
+sampleOf l field =
     record {
       offset = field .offset;
-      length = n - 1;
+      length = l .depth - 1;
       channel = field .channel;
       position = 0;
-      lower = lowerOf range n;
-      upper = upperOf range n (kindOf model (field .channel));
+      lower = lowerOf (rangeOf (l .range)) (l .depth);
+      upper = upperOf (rangeOf (l .range)) (l .depth) (kindOf (l .model) (field .channel));
     }
 
 -- of all three, in rising bit offset
 unfoldable pub samplesOf : Layout → Samples
 samplesOf l =
     let fields = fieldsOf l in
-    let of = sampleOf (l .model) (rangeOf (l .range)) (l .depth) in
-    record { first = of (fields .first); second = of (fields .second); third = of (fields .third) }
+    record { first = sampleOf l (fields .first); second = sampleOf l (fields .second); third = sampleOf l (fields .third) }
 
 -- ---- a sample's 16 bytes
 

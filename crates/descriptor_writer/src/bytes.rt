@@ -1,7 +1,7 @@
 // The parts of a descriptor as bytes (document 01, "Descriptor").
 ghost use mathlib.Core.Path.{_≡_};
-ghost use Prim.Native.Nat.{_-_};
-ghost use Rattle.layout.specs.Layout.{bitsOf};
+ghost use mathlib.Core.Bool.{true};
+ghost use Rattle.layout.specs.Layout.{depthKnown};
 ghost use Rattle.descriptor_writer.specs.Sample.{sampleBytes, sampleOf};
 ghost use Rattle.descriptor_writer.specs.Writing.{headerBytes};
 use crate::field::Field;
@@ -47,28 +47,20 @@ pub(crate) fn header_bytes(layout: Layout) -> [u8; 28]
     ]
 }
 
-// The number n - 1 of a depth.
-fn length_of(depth: Depth) -> u8
-    ensures { λ r. ⌜ r ≡ bitsOf depth - 1 ⌝ }
-{
-    match depth {
-        Depth::Eight => 7,
-        Depth::Ten => 9,
-        Depth::Twelve => 11,
-    }
-}
-
 // The bytes of a field's sample.
-pub(crate) fn sample_bytes(model: u8, range: Range, depth: Depth, field: Field) -> [u8; 16]
-    ensures { λ r. ⌜ r ≡ sampleBytes (sampleOf model range (bitsOf depth) field) ⌝ }
+pub(crate) fn sample_bytes(layout: Layout, field: Field) -> [u8; 16]
+    requires { ⌜ depthKnown (layout .depth) ≡ true ⌝ }
+    ensures { λ r. ⌜ r ≡ sampleBytes (sampleOf layout field) ⌝ }
 {
-    let limits = Limits::of(range, depth, Kind::of(model, field.channel));
+    let kind = Kind::of(layout.model, field.channel);
+    let limits = Limits::of(Range::of(layout.range), Depth::of(layout.depth), kind);
+    let depth = layout.depth;
     let lower = limits.lower;
     let upper = limits.upper;
     [
         field.offset,
         0,
-        length_of(depth),
+        depth - 1,
         field.channel,
         0,
         0,

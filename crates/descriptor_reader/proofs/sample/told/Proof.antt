@@ -1,6 +1,6 @@
 -- `descriptor_reader::sample::told` meets its contract, row by row. Assumes nothing.
 use mathlib.Core.Path.{_≡_, sym, ap, _∙_, subst}
-use mathlib.Core.Bool.{true, false}
+use mathlib.Core.Bool.{true}
 use Prim.Native.Nat.{ℕ, _+_}
 use lib.Dec.{eqb}
 use borrow.Author.Tests.{eq-eqb, ne-eqb, not-true, not-false}
@@ -8,9 +8,7 @@ use Rattle.layout.specs.Layout.{bitsOf}
 use Rattle.layout.proofs.Depths.{known-bits}
 use Rattle.samples.specs.Samples.{samplesRight, rangeIn}
 use Rattle.descriptor_reader.proofs.Right.{right-says, length-lt}
-use Rattle.descriptor_reader.specs.declared.Reading.the-variants.{Accepted}
-use Rattle.descriptor_reader.specs.Reading.{layoutFrom}
-use Rattle.descriptor_reader.proofs.Answers.{refused-5, refused-6, accepted}
+use Rattle.descriptor_reader.proofs.Answers.{refused-5, refused-6, accepted-as}
 use borrow.Author.Needs.{needs}
 use Rattle.descriptor_reader.proofs.sample.told.Statement.{statement}
 use Rattle.descriptor_reader.proofs.sample.told.Tie as tie
@@ -56,10 +54,8 @@ returns-3 : tie.Need-returns-3
 returns-3 c =
     let e = c .before in
     let a = e .before .before .before .before .before .args in
-    let q = ranged (e .before) in
-    ap Accepted (c .layout-from .ensures ∙ ap (λ (r : ℕ). layoutFrom (a .model) (a .primaries) r (a .bytes) (a .samples)) q)
-    ∙ accepted (a .model) (a .primaries) (a .bytes) (a .samples) (right (e .before .before .before))
-    (subst (λ (k : ℕ). eqb k 0 ≡ false) q (ne-eqb (e .before .range .result) 0 (e .if2 .left)))
+    accepted-as (a .model) (a .primaries) (a .bytes) (a .samples) (right (e .before .before .before)) (e .before .range .result) (c .layout-from .result)
+    (ranged (e .before)) (ne-eqb (e .before .range .result) 0 (e .if2 .left)) (c .layout-from .ensures)
 
 pub told-spec : {M : Type 1} → statement M
 told-spec =

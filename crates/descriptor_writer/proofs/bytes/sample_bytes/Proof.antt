@@ -1,9 +1,10 @@
 -- `descriptor_writer::bytes::sample_bytes` meets its contract: the numbers are small, so the literal is the definition's list. Assumes nothing.
 use mathlib.Core.Path.{_≡_, ap, _∙_}
-use Prim.Native.Nat.{_<_}
+use Prim.Native.Nat.{_-_, _<_}
 use native.Mathlib.Omega.{arith}
-use Rattle.layout.specs.Layout.{bitsOf}
-use Rattle.samples.specs.Limits.{upperOf}
+use Rattle.layout.specs.Layout.{rangeOf, bitsOf, kindOf}
+use Rattle.layout.proofs.Depths.{known-bits, known-between}
+use Rattle.samples.specs.Limits.{limitsOf}
 use Rattle.descriptor_writer.specs.Sample.{sampleBytes, sampleOf}
 use Rattle.descriptor_writer.proofs.Small.{small-sample}
 use borrow.Author.Needs.{needs}
@@ -16,38 +17,46 @@ of-requires c κs = search needs
 of-requires-2 : tie.Need-of-requires-2
 of-requires-2 c κs = search needs
 
-length-of-requires : tie.Need-length-of-requires
-length-of-requires c κs = search needs
+of-requires-3 : tie.Need-of-requires-3
+of-requires-3 c κs = search needs
 
-cast-t11 : tie.Need-cast-t11
-cast-t11 c = search needs
+of-requires-4 : tie.Need-of-requires-4
+of-requires-4 c κs = search needs
 
-cast-t13 : tie.Need-cast-t13
-cast-t13 c = search needs
+sub-t10 : tie.Need-sub-t10
+sub-t10 c = let s = c .before .before .before .before in omega (arith, known-between (s .args .layout .depth) (s .pre))
 
-cast-t15 : tie.Need-cast-t15
-cast-t15 c = search needs
+cast-t12 : tie.Need-cast-t12
+cast-t12 c = search needs
 
-cast-t17 : tie.Need-cast-t17
-cast-t17 c = search needs
+cast-t14 : tie.Need-cast-t14
+cast-t14 c = search needs
+
+cast-t16 : tie.Need-cast-t16
+cast-t16 c = search needs
+
+cast-t18 : tie.Need-cast-t18
+cast-t18 c = search needs
 
 returns : tie.Need-returns
 unfolding sampleOf
 returns c =
-    let a = c .before .before .before .args in
-    let l = c .before .of2 .result in
-    let e = c .before .of2 .ensures in
+    let s = c .before .before .before .before in
+    let a = s .args in
+    let l = c .of4 .result in
+    let n = ap bitsOf (c .before .of3 .ensures) ∙ known-bits (a .layout .depth) (s .pre) in
+    let e : l ≡ limitsOf (rangeOf (a .layout .range)) (a .layout .depth) (kindOf (a .layout .model) (a .field .channel)) = c .of4 .ensures ∙ (λ i. limitsOf (c .before .before .of2 .ensures i) (n i) (c .before .before .before .of .ensures i)) in
     let o : a .field .offset < 256 = omega arith in
     let h : l .lower < 65536 = omega arith in
     let k : l .upper < 65536 = omega arith in
-    small-sample (a .field .offset) (c .length-of .result) (a .field .channel) (l .lower) (l .upper) o h k
+    small-sample (a .field .offset) (a .layout .depth - 1) (a .field .channel) (l .lower) (l .upper) o h k
     ∙ (λ i. sampleBytes (record {
       offset = a .field .offset;
-      length = c .length-of .ensures i;
+      length = a .layout .depth - 1;
       channel = a .field .channel;
       position = 0;
       lower = e i .lower;
-      upper = ((λ j. e j .upper) ∙ ap (upperOf (a .range) (bitsOf (a .depth))) (c .before .before .of .ensures)) i;
+      upper = e i .upper;
     }))
 
 pub sample-bytes-spec : {M : Type 1} → statement M
@@ -56,9 +65,11 @@ sample-bytes-spec =
     (tie.spec
     of-requires
     of-requires-2
-    length-of-requires
-    cast-t11
-    cast-t13
-    cast-t15
-    cast-t17
+    of-requires-3
+    of-requires-4
+    sub-t10
+    cast-t12
+    cast-t14
+    cast-t16
+    cast-t18
     returns)

@@ -9,7 +9,7 @@ use Rattle.descriptor_writer.proofs.store.put_sample.Statement.{stateme
 use Rattle.descriptor_writer.proofs.store.put_sample.Tie as tie
 
 sample-bytes-requires : tie.Need-sample-bytes-requires
-sample-bytes-requires c κs = search needs
+sample-bytes-requires c κs = c .before .pre .0
 
 slice-aggregate-put : tie.Need-slice-aggregate-put
 slice-aggregate-put c = search needs
