@@ -20,7 +20,7 @@ use Rattle.descriptor_laws.proofs.Written.{accepts}
 use Rattle.descriptor_laws.proofs.Read.{accepts-no-other}
 
 -- a layout that was written is valid
-written-valid : (l : Layout) (out : List ℕ) → writeAnswer l out ≡ Done → validLayout l ≡ true
+written-valid : (l : Layout) (out : List ℕ) → writeAnswer l (length out) ≡ Done → validLayout l ≡ true
 unfolding writeAnswer
 written-valid l out = go (validLayout l) (cond (not (eqb (length out) 76)) (Refused 13) Done)
   where
@@ -29,7 +29,7 @@ written-valid l out = go (validLayout l) (cond (not (eqb (length out) 76)) (Refu
     go false y e = let z : _≡_ {A = ℕ} 0 1 = cc in absurd (omega arith)
 
 -- what it left
-written-is : (l : Layout) (out : List ℕ) → writeAnswer l out ≡ Done → writeOutput l out ≡ descriptorBytes l
+written-is : (l : Layout) (out : List ℕ) → writeAnswer l (length out) ≡ Done → writeOutput l out ≡ descriptorBytes l
 written-is l out e = sym (changed l out (descriptorBytes l) (sym e) refl)
 
 -- the layout that is accepted is one

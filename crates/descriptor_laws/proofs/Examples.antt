@@ -12,7 +12,7 @@ use Rattle.descriptor_reader.specs.Header.{headerRight, colorRight, planesRight
 use Rattle.descriptor_reader.specs.Reading.{layoutFrom, readSamples, readDescriptor}
 use Rattle.descriptor_writer.specs.Field.{rising, fieldsOf}
 use Rattle.descriptor_writer.specs.Sample.{sampleBytes, sampleOf, samplesOf}
-use Rattle.descriptor_writer.specs.Writing.{headerBytes, samplesBytes, descriptorBytes}
+use Rattle.descriptor_writer.specs.Writing.{frontBytes, samplesBytes, descriptorBytes}
 
 -- B', G', R' of 8 bits in three bytes, full range, BT.709
 abbrev bgr : Layout
@@ -51,5 +51,5 @@ examples : (descriptorBytes bgr ≡ bgrBytes)
     × (readDescriptor (set tenBytes 63 18) ≡ Refused 5)
     × (readDescriptor (set (set tenBytes 40 172) 64 1) ≡ Refused 5)
     × (readDescriptor (set tenBytes 40 172) ≡ Refused 6)
-unfolding bytesOf sampleBytes sampleIn samplesIn states allState rangeIn sampleOf rising fieldsOf samplesOf samplesRight offsetIn headerBytes samplesBytes descriptorBytes headerRight colorRight planesRight layoutFrom readSamples readDescriptor
+unfolding bytesOf sampleBytes sampleIn samplesIn states allState rangeIn sampleOf rising fieldsOf samplesOf samplesRight offsetIn frontBytes samplesBytes descriptorBytes headerRight colorRight planesRight layoutFrom readSamples readDescriptor
 examples = (refl, refl, refl, refl, refl, refl, refl, refl, refl, refl, refl, refl)

@@ -10,7 +10,7 @@ use borrow.Author.Tests.{eqb-true, ltb-true, ltb-false, not-false}
 use lib.Dec.{eqb, ltb, lit<}
 use lib.ListN.{length, getD, List·getD-eq-default}
 use Rattle.lists.specs.Lists.{tabulate}
-use Rattle.lists.specs.Bytes.{bytesOf}
+use Rattle.lists.specs.Bytes.{bytesOf, numberAt}
 use Rattle.lists.proofs.Every.{every-at}
 use Rattle.lists.proofs.Lists.{is-tabulate}
 use Rattle.lists.proofs.Tests.{and-left, and-right, and3}
@@ -23,11 +23,11 @@ use Rattle.descriptor_reader.specs.declared.Reading.{Reading}
 use Rattle.descriptor_reader.specs.declared.Reading.the-variants.{Accepted, Refused}
 use Rattle.samples.specs.Limits.{lowerOf, upperOf}
 use Rattle.samples.specs.Samples.{states, allState, samplesRight}
-use Rattle.descriptor_reader.specs.Sample.{number, sampleIn, samplesIn}
+use Rattle.descriptor_reader.specs.Sample.{sampleIn, samplesIn}
 use Rattle.descriptor_writer.specs.Sample.{sampleBytes}
 use Rattle.descriptor_reader.specs.Header.{zeros, headerRight, colorRight, planesRight}
 use Rattle.descriptor_reader.specs.Reading.{layoutFrom, readSamples, readDescriptor}
-use Rattle.descriptor_writer.specs.Writing.{headerBytes, samplesBytes, descriptorBytes}
+use Rattle.descriptor_writer.specs.Writing.{frontBytes, samplesBytes, descriptorBytes}
 use Rattle.descriptor_reader.proofs.Right.{Right, right-says}
 use Rattle.descriptor_reader.proofs.Answers.{planes-bytes}
 use Rattle.descriptor_laws.proofs.Samples.{rangeFrom, layoutIn, Of}
@@ -93,20 +93,20 @@ abbrev slots : List ℕ → ℕ → ℕ → List ℕ
 slots b i zero = []
 slots b i (suc k) = getD b i 0 ∷ slots b (i + 1) k
 
-slots-of-number : (b : List ℕ) → Bytes b → (i k : ℕ) → bytesOf (number b i k) k ≡ slots b i k
+slots-of-number : (b : List ℕ) → Bytes b → (i k : ℕ) → bytesOf (numberAt b i k) k ≡ slots b i k
 unfolding bytesOf
 slots-of-number b e i zero = refl
 slots-of-number b e i (suc k) =
     let x = getD b i 0 in
-    let y = number b (i + 1) k in
+    let y = numberAt b (i + 1) k in
     let h : x < 256 = byte-lt b e i in
     let q : (x + 256 * y) / 256 ≡ y = omega arith in
     let r : (x + 256 * y) % 256 ≡ x = omega arith in
     ap₂ (λ (z : ℕ) (zs : List ℕ). z ∷ zs) r (ap (λ (v : ℕ). bytesOf v k) q ∙ slots-of-number b e (i + 1) k)
 
 -- the bytes of a number that is known
-slots-of : (b : List ℕ) → Bytes b → (i k v : ℕ) → eqb (number b i k) v ≡ true → bytesOf v k ≡ slots b i k
-slots-of b e i k v h = ap (λ (x : ℕ). bytesOf x k) (sym (eqb-true (number b i k) v h)) ∙ slots-of-number b e i k
+slots-of : (b : List ℕ) → Bytes b → (i k v : ℕ) → eqb (numberAt b i k) v ≡ true → bytesOf v k ≡ slots b i k
+slots-of b e i k v h = ap (λ (x : ℕ). bytesOf x k) (sym (eqb-true (numberAt b i k) v h)) ∙ slots-of-number b e i k
 
 zero-at : (b : List ℕ) (i k j : ℕ) → zeros b i k ≡ true → j < k → 0 ≡ getD b (i + j) 0
 zero-at b i zero j e h = absurd (omega arith)
@@ -140,15 +140,15 @@ all-slots : (b : List ℕ) → length b ≡ 76 → b ≡ headerSlots b ++ (sampl
 unfolding tabulate
 all-slots b e = is-tabulate 0 b 76 (λ k. getD b k 0) e (λ k h. refl)
 
-header-slots : (b : List ℕ) → Bytes b → headerRight b ≡ true → colorRight b ≡ true → planesRight b ≡ true → headerBytes (layoutIn b) ≡ headerSlots b
-unfolding headerBytes layoutFrom headerRight colorRight planesRight
+header-slots : (b : List ℕ) → Bytes b → headerRight b ≡ true → colorRight b ≡ true → planesRight b ≡ true → frontBytes (layoutIn b) ≡ headerSlots b
+unfolding frontBytes layoutFrom headerRight colorRight planesRight
 header-slots b e h c p =
-    let sizes = and3 (eqb (number b 0 4) 76 && eqb (number b 4 4) 0) (eqb (number b 8 2) 1) (eqb (number b 10 2) 72) h in
+    let sizes = and3 (eqb (numberAt b 0 4) 76 && eqb (numberAt b 4 4) 0) (eqb (numberAt b 8 2) 1) (eqb (numberAt b 10 2) 72) h in
     let colors = and3 (modelKnown (getD b 12 0) && primariesKnown (getD b 13 0)) (eqb (getD b 14 0) 3) (eqb (getD b 15 0) 0) c in
     let planes = and3 (zeros b 16 4) (bytesKnown (getD b 20 0)) (zeros b 21 7) p in
     λ j.
-    slots-of b e 0 4 76 (and-left (eqb (number b 0 4) 76) (eqb (number b 4 4) 0) (sizes .0)) j
-    ++ (slots-of b e 4 4 0 (and-right (eqb (number b 0 4) 76) (eqb (number b 4 4) 0) (sizes .0)) j
+    slots-of b e 0 4 76 (and-left (eqb (numberAt b 0 4) 76) (eqb (numberAt b 4 4) 0) (sizes .0)) j
+    ++ (slots-of b e 4 4 0 (and-right (eqb (numberAt b 0 4) 76) (eqb (numberAt b 4 4) 0) (sizes .0)) j
     ++ (slots-of b e 8 2 1 (sizes .1) j
     ++ (slots-of b e 10 2 72 (sizes .2) j
     ++ (getD b 12 0 ∷ getD b 13 0 ∷ sym (eqb-true (getD b 14 0) 3 (colors .1)) j ∷ sym (eqb-true (getD b 15 0) 0 (colors .2)) j
@@ -228,7 +228,7 @@ module _ (b : List ℕ) (l : Layout) (p : Passed b l) where
   bytes-read e =
       all-slots b (p .long)
       ∙ sym ((λ j. header-slots b e (p .header) (p .color) (p .planes) j ++ (sample-slots b e 28 j ++ (sample-slots b e 44 j ++ sample-slots b e 60 j))))
-      ∙ sym (ap (λ (s : Samples). headerBytes (layoutIn b) ++ (sampleBytes (s .first) ++ (sampleBytes (s .second) ++ sampleBytes (s .third)))) (told-read .samples))
+      ∙ sym (ap (λ (s : Samples). frontBytes (layoutIn b) ++ (sampleBytes (s .first) ++ (sampleBytes (s .second) ++ sampleBytes (s .third)))) (told-read .samples))
 
 pub accepts-no-other : AcceptsNoOther
 accepts-no-other b l e h =

@@ -29,7 +29,7 @@ use Rattle.descriptor_reader.specs.Sample.{sampleIn, samplesIn}
 use Rattle.descriptor_writer.specs.Sample.{sampleBytes, sampleOf, samplesOf}
 use Rattle.descriptor_reader.specs.Header.{headerRight, colorRight, planesRight}
 use Rattle.descriptor_reader.specs.Reading.{layoutFrom, readDescriptor}
-use Rattle.descriptor_writer.specs.Writing.{headerBytes, samplesBytes, descriptorBytes}
+use Rattle.descriptor_writer.specs.Writing.{frontBytes, samplesBytes, descriptorBytes}
 use Rattle.descriptor_reader.proofs.Answers.{accepted, samples-decide}
 use Rattle.descriptor_laws.proofs.Order.{rising-all}
 use Rattle.descriptor_laws.proofs.Samples.{field, rangeFrom, layoutIn, Of, of-samples, right-samples, range-samples, offsets}
@@ -69,7 +69,7 @@ again-is s f =
 
 again-in : (l : Layout) → samplesIn (descriptorBytes l)
     ≡ (record { first = again (samplesOf l .first); second = again (samplesOf l .second); third = again (samplesOf l .third) })
-unfolding descriptorBytes samplesBytes headerBytes sampleBytes bytesOf samplesIn sampleIn
+unfolding descriptorBytes samplesBytes frontBytes sampleBytes bytesOf samplesIn sampleIn
 again-in l = refl
 
 module _ (l : Layout) (v : Valid l) where
@@ -123,26 +123,26 @@ module _ (l : Layout) (v : Valid l) where
 
   -- no row applies
   header-is : headerRight (descriptorBytes l) ≡ true
-  unfolding headerRight descriptorBytes samplesBytes headerBytes sampleBytes bytesOf
+  unfolding headerRight descriptorBytes samplesBytes frontBytes sampleBytes bytesOf
   header-is = refl
 
   color-is : colorRight (descriptorBytes l) ≡ true
-  unfolding colorRight descriptorBytes samplesBytes headerBytes sampleBytes bytesOf
+  unfolding colorRight descriptorBytes samplesBytes frontBytes sampleBytes bytesOf
   color-is = rw (v .model, v .primaries) refl
 
   bytes-is : bytesKnown (l .bytes) ≡ true
   bytes-is = ap₂ _&&_ (le-leb 3 (l .bytes) (v .bytes-least)) (le-leb (l .bytes) 8 (v .bytes-most))
 
   planes-is : planesRight (descriptorBytes l) ≡ true
-  unfolding planesRight descriptorBytes samplesBytes headerBytes sampleBytes bytesOf
+  unfolding planesRight descriptorBytes samplesBytes frontBytes sampleBytes bytesOf
   planes-is = rw bytes-is refl
 
   right-is : samplesRight (getD (descriptorBytes l) 20 0) (samplesIn (descriptorBytes l)) ≡ true
-  unfolding descriptorBytes samplesBytes headerBytes sampleBytes bytesOf
+  unfolding descriptorBytes samplesBytes frontBytes sampleBytes bytesOf
   right-is = ap (samplesRight (l .bytes)) samples-again ∙ right-samples l v
 
   range-is : rangeFrom (getD (descriptorBytes l) 12 0) (samplesIn (descriptorBytes l)) ≡ l .range
-  unfolding descriptorBytes samplesBytes headerBytes sampleBytes bytesOf
+  unfolding descriptorBytes samplesBytes frontBytes sampleBytes bytesOf
   range-is = ap (rangeFrom (l .model)) samples-again ∙ range-samples l v
 
   range-stated : eqb (l .range) 0 ≡ false
@@ -152,11 +152,11 @@ module _ (l : Layout) (v : Valid l) where
   ]
 
   layout-is : layoutIn (descriptorBytes l) ≡ l
-  unfolding descriptorBytes samplesBytes headerBytes sampleBytes bytesOf
+  unfolding descriptorBytes samplesBytes frontBytes sampleBytes bytesOf
   layout-is = ap (λ (s : Samples). layoutFrom (l .model) (l .primaries) (rangeFrom (l .model) s) (l .bytes) s) samples-again ∙ layout-again
 
   length-is : eqb (length (descriptorBytes l)) 76 ≡ true
-  unfolding descriptorBytes samplesBytes headerBytes sampleBytes bytesOf
+  unfolding descriptorBytes samplesBytes frontBytes sampleBytes bytesOf
   length-is = refl
 
   read-descriptor : readDescriptor (descriptorBytes l) ≡ Accepted l

@@ -3,9 +3,8 @@ use Prim.Native.Nat.{ℕ}
 use mathlib.Core.Bool.{true}
 use mathlib.Core.Path.{_≡_}
 use mathlib.Core.List.{List}
-use lib.Dec.{ltb}
 use lib.ListN.{length}
-use Rattle.lists.specs.Lists.{every}
+use Rattle.lists.specs.Bytes.{areBytes}
 use Rattle.layout.specs.declared.Layout.{Layout}
 use Rattle.layout.specs.Layout.{validLayout}
 use Rattle.descriptor_reader.specs.declared.Reading.the-variants.{Accepted}
@@ -15,7 +14,7 @@ use Rattle.descriptor_writer.specs.Writing.{descriptorBytes, writeAnswer, write
 
 -- every element is a byte
 abbrev pub Bytes : List ℕ → Type 0
-Bytes b = every (λ x. ltb x 256) b ≡ true
+Bytes b = areBytes b ≡ true
 
 -- the descriptor of a valid layout is accepted, and tells the layout
 abbrev pub Accepts : Type 0
@@ -27,13 +26,13 @@ AcceptsNoOther = (b : List ℕ) (l : Layout) → Bytes b → readDescriptor b �
 
 -- what writing a layout left is read as that layout
 abbrev pub ReadsWhatWasWritten : Type 0
-ReadsWhatWasWritten = (l : Layout) (out : List ℕ) → writeAnswer l out ≡ Done → readDescriptor (writeOutput l out) ≡ Accepted l
+ReadsWhatWasWritten = (l : Layout) (out : List ℕ) → writeAnswer l (length out) ≡ Done → readDescriptor (writeOutput l out) ≡ Accepted l
 
 -- writing a layout that was read leaves the bytes that were read
 abbrev pub WritesWhatWasRead : Type 0
 WritesWhatWasRead =
     (b : List ℕ) (l : Layout) (out : List ℕ) → Bytes b → readDescriptor b ≡ Accepted l → length out ≡ 76
-    → (writeAnswer l out ≡ Done) × (writeOutput l out ≡ b)
+    → (writeAnswer l (length out) ≡ Done) × (writeOutput l out ≡ b)
 
 -- two valid layouts with one descriptor are one layout
 abbrev pub OneLayout : Type 0

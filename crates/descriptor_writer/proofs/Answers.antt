@@ -10,26 +10,26 @@ use Rattle.layout.specs.declared.Layout.{Layout}
 use Rattle.layout.specs.Layout.{validLayout}
 use Rattle.descriptor_writer.specs.declared.Writing.{Writing}
 use Rattle.descriptor_writer.specs.declared.Writing.the-variants.{Done, Refused}
-use Rattle.descriptor_writer.specs.Writing.{descriptorBytes, writeAnswer, outputAfter, writeOutput}
+use Rattle.descriptor_writer.specs.Writing.{descriptorBytes, writeAnswer, kept, writeOutput}
 
 module _ (l : Layout) (out : List ℕ) where
-  pub refused-9 : validLayout l ≡ false → Refused 9 ≡ writeAnswer l out
+  pub refused-9 : validLayout l ≡ false → Refused 9 ≡ writeAnswer l (length out)
   unfolding writeAnswer
   refused-9 e = sym (stop _ (ap not e))
 
-  pub refused-13 : validLayout l ≡ true → eqb (length out) 76 ≡ false → Refused 13 ≡ writeAnswer l out
+  pub refused-13 : validLayout l ≡ true → eqb (length out) 76 ≡ false → Refused 13 ≡ writeAnswer l (length out)
   unfolding writeAnswer
   refused-13 v e = sym (pass _ (ap not v) (stop _ (ap not e)))
 
-  pub done : validLayout l ≡ true → eqb (length out) 76 ≡ true → Done ≡ writeAnswer l out
+  pub done : validLayout l ≡ true → eqb (length out) 76 ≡ true → Done ≡ writeAnswer l (length out)
   unfolding writeAnswer
   done v e = sym (pass _ (ap not v) (pass _ (ap not e) refl))
 
   -- what the output then holds
-  pub unchanged : (k : ℕ) → Refused k ≡ writeAnswer l out → out ≡ writeOutput l out
+  pub unchanged : (k : ℕ) → Refused k ≡ writeAnswer l (length out) → out ≡ writeOutput l out
   unfolding writeOutput
-  unchanged k e = ap (λ (a : Writing). outputAfter a (descriptorBytes l) out) e
+  unchanged k e = ap (λ (a : Writing). kept a out (descriptorBytes l)) e
 
-  pub changed : (bytes : List ℕ) → Done ≡ writeAnswer l out → bytes ≡ descriptorBytes l → bytes ≡ writeOutput l out
+  pub changed : (bytes : List ℕ) → Done ≡ writeAnswer l (length out) → bytes ≡ descriptorBytes l → bytes ≡ writeOutput l out
   unfolding writeOutput
-  changed bytes e q = q ∙ ap (λ (a : Writing). outputAfter a (descriptorBytes l) out) e
+  changed bytes e q = q ∙ ap (λ (a : Writing). kept a out (descriptorBytes l)) e

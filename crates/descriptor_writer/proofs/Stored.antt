@@ -3,18 +3,19 @@ use mathlib.Core.Path.{_≡_, refl, sym, ap, ap₂, _∙_}
 use mathlib.Core.List.{List, _++_, append-assoc}
 use Prim.Native.Nat.{ℕ, _+_}
 use native.Mathlib.Nat.{zero-add, add-zero}
+use native.Mathlib.Omega.{arith}
 use lib.ListN.{length, getD, length-append, List·getD-append}
 use lib.Seq.{getD-append-add}
 use Rattle.lists.specs.Lists.{written}
 use Rattle.lists.specs.Bytes.{bytesOf}
 use Rattle.lists.proofs.Lists.{is-tabulate, written-none, written-join}
-use Rattle.lists.proofs.Filled.{Filled, filled-all}
+use Rattle.lists.proofs.Filled.{filled-none, filled-more, filled-all}
 use Rattle.layout.specs.declared.Layout.{Layout}
 use Rattle.descriptor_writer.specs.declared.field.Fields.{Fields}
 use Rattle.samples.specs.declared.sample.Sample.{Sample}
 use Rattle.descriptor_writer.specs.Field.{fieldsOf}
 use Rattle.descriptor_writer.specs.Sample.{sampleBytes, sampleOf, samplesOf}
-use Rattle.descriptor_writer.specs.Writing.{headerBytes, samplesBytes, descriptorBytes, stored}
+use Rattle.descriptor_writer.specs.Writing.{frontBytes, samplesBytes, descriptorBytes, stored}
 
 -- ---- any parts
 
@@ -35,20 +36,22 @@ stored-join xs p q at =
 
 -- a part as long as the output
 pub stored-whole : (xs p : List ℕ) → length xs ≡ length p → stored xs 0 p ≡ p
-stored-whole xs p e = filled-all 0 e (record { is = refl }) ∙ sym (is-tabulate 0 p (length p) (λ k. getD p k 0) refl (λ k h. refl))
+stored-whole xs p e =
+    filled-all 0 e (filled-more (λ k. getD p k 0) (length p) (zero-add (length p)) (omega arith) (λ j h. ap (λ (m : ℕ). getD p m 0) (sym (zero-add j))) filled-none refl)
+    ∙ sym (is-tabulate 0 p (length p) (λ k. getD p k 0) refl (λ k h. refl))
 
 -- ---- the descriptor's
 
-length-header : (l : Layout) → length (headerBytes l) ≡ 28
-unfolding headerBytes bytesOf
-length-header l = refl
+length-front : (l : Layout) → length (frontBytes l) ≡ 28
+unfolding frontBytes bytesOf
+length-front l = refl
 
 length-sample : (s : Sample) → length (sampleBytes s) ≡ 16
 unfolding sampleBytes bytesOf
 length-sample s = refl
 
 length-descriptor : (l : Layout) → length (descriptorBytes l) ≡ 76
-unfolding descriptorBytes samplesBytes headerBytes sampleBytes bytesOf
+unfolding descriptorBytes samplesBytes frontBytes sampleBytes bytesOf
 length-descriptor l = refl
 
 -- the three samples
@@ -74,15 +77,15 @@ samples-stored l f out x1 x2 x3 e s1 s2 s3 =
     two a b e f = length-append a b ∙ ap₂ (λ (m n : ℕ). m + n) e f
 
 -- all of it
-whole : (l : Layout) (out : List ℕ) → length out ≡ 76 → stored out 0 (headerBytes l ++ samplesBytes l) ≡ descriptorBytes l
+whole : (l : Layout) (out : List ℕ) → length out ≡ 76 → stored out 0 (frontBytes l ++ samplesBytes l) ≡ descriptorBytes l
 unfolding descriptorBytes
 whole l out n = stored-whole out (descriptorBytes l) (n ∙ sym (length-descriptor l))
 
--- and with the header before them
-pub descriptor-stored : (l : Layout) (out h x1 x2 : List ℕ) → length out ≡ 76 → h ≡ headerBytes l → x1 ≡ stored out 0 h → x2 ≡ stored x1 28 (samplesBytes l)
+-- and with the bytes before them
+pub descriptor-stored : (l : Layout) (out h x1 x2 : List ℕ) → length out ≡ 76 → h ≡ frontBytes l → x1 ≡ stored out 0 h → x2 ≡ stored x1 28 (samplesBytes l)
     → x2 ≡ descriptorBytes l
 descriptor-stored l out h x1 x2 n e s1 s2 =
     s2
-    ∙ ap₂ (λ (zs : List ℕ) (m : ℕ). stored zs m (samplesBytes l)) (s1 ∙ ap (stored out 0) e) (sym (length-header l) ∙ sym (zero-add (length (headerBytes l))))
-    ∙ stored-join out (headerBytes l) (samplesBytes l) 0
+    ∙ ap₂ (λ (zs : List ℕ) (m : ℕ). stored zs m (samplesBytes l)) (s1 ∙ ap (stored out 0) e) (sym (length-front l) ∙ sym (zero-add (length (frontBytes l))))
+    ∙ stored-join out (frontBytes l) (samplesBytes l) 0
     ∙ whole l out n

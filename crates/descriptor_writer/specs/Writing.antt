@@ -13,9 +13,9 @@ use Rattle.descriptor_writer.specs.declared.Writing.{Writing}
 use Rattle.descriptor_writer.specs.declared.Writing.the-variants.{Done, Refused}
 use Rattle.descriptor_writer.specs.Sample.{sampleBytes, samplesOf}
 
--- bytes 0 to 27: total size 76, zero, version 1, block size 72; model, primaries, transfer 3 (ITU), flags 0; four zeros; bytes a point, zeros
-unfoldable pub headerBytes : Layout → List ℕ
-headerBytes l =
+-- bytes 0 to 27: at 0 the total size, at 4 vendor and type, at 8 the version, at 10 the block size; at 12 model, primaries, transfer (ITU) and flags; at 16 zeros, at 20 the bytes a point, and zeros
+unfoldable pub frontBytes : Layout → List ℕ
+frontBytes l =
     bytesOf 76 4
     ++ (bytesOf 0 4
     ++ (bytesOf 1 2
@@ -32,24 +32,24 @@ samplesBytes l =
 
 -- all 76
 unfoldable pub descriptorBytes : Layout → List ℕ
-descriptorBytes l = headerBytes l ++ samplesBytes l
+descriptorBytes l = frontBytes l ++ samplesBytes l
 
 -- what storing a part from index at on leaves
 abbrev pub stored : List ℕ → ℕ → List ℕ → List ℕ
 stored out at part = written out at (λ k. getD part k 0) (length part)
 
--- what writing answers: 9, then 13
-unfoldable pub writeAnswer : Layout → List ℕ → Writing
-writeAnswer l out =
+-- writing into so many bytes: 9, then 13
+unfoldable pub writeAnswer : Layout → ℕ → Writing
+writeAnswer l bytes =
     cond (not (validLayout l)) (Refused outside)
-    (cond (not (eqb (length out) 76)) (Refused wrongLineOrOutput)
+    (cond (not (eqb bytes 76)) (Refused wrongLineOrOutput)
     Done)
 
--- what the output holds after an answer: the descriptor if it was written, else what it held
-abbrev pub outputAfter : Writing → List ℕ → List ℕ → List ℕ
-outputAfter Done bytes out = bytes
-outputAfter (Refused n) bytes out = out
+-- an output afterwards: what is written, or what was there before where it is refused
+abbrev pub kept : Writing → List ℕ → List ℕ → List ℕ
+kept Done before after = after
+kept (Refused k) before after = before
 
--- what the output holds after writing
+-- the bytes after writing
 unfoldable pub writeOutput : Layout → List ℕ → List ℕ
-writeOutput l out = outputAfter (writeAnswer l out) (descriptorBytes l) out
+writeOutput l before = kept (writeAnswer l (length before)) before (descriptorBytes l)

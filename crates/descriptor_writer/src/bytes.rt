@@ -3,7 +3,7 @@ ghost use mathlib.Core.Path.{_≡_};
 ghost use mathlib.Core.Bool.{true};
 ghost use Rattle.layout.specs.Layout.{depthKnown};
 ghost use Rattle.descriptor_writer.specs.Sample.{sampleBytes, sampleOf};
-ghost use Rattle.descriptor_writer.specs.Writing.{headerBytes};
+ghost use Rattle.descriptor_writer.specs.Writing.{frontBytes};
 use crate::field::Field;
 use layout::Depth;
 use layout::Kind;
@@ -12,8 +12,8 @@ use layout::Range;
 use samples::Limits;
 
 // Bytes 0 to 27 of a layout's descriptor.
-pub(crate) fn header_bytes(layout: Layout) -> [u8; 28]
-    ensures { λ r. ⌜ r ≡ headerBytes layout ⌝ }
+pub(crate) fn front_bytes(layout: Layout) -> [u8; 28]
+    ensures { λ r. ⌜ r ≡ frontBytes layout ⌝ }
 {
     [
         76,

@@ -1,5 +1,6 @@
 // A descriptor written: the 76 bytes that tell a layout (document 01, "Descriptor").
 ghost use mathlib.Core.Path.{_≡_};
+ghost use lib.ListN.{length};
 ghost use Rattle.descriptor_writer.specs.Writing.{writeAnswer, writeOutput};
 use layout::Layout;
 use layout::refusal;
@@ -19,7 +20,7 @@ pub enum Writing {
 
 // Writes the descriptor of a layout. Refused: 9, then 13; `out` is then as it was.
 pub fn write(layout: Layout, out: &mut [u8]) -> Writing
-    ensures answer { λ r. ⌜ r ≡ writeAnswer layout (now (out .entry)) ⌝ }
+    ensures answer { λ r. ⌜ r ≡ writeAnswer layout (length (now (out .entry))) ⌝ }
     ensures memory { λ r. ⌜ now (out .exit) ≡ writeOutput layout (now (out .entry)) ⌝ }
 {
     if !layout.valid() {
@@ -28,7 +29,7 @@ pub fn write(layout: Layout, out: &mut [u8]) -> Writing
     if out.len() != 76 {
         return Writing::Refused(refusal::WRONG_LINE_OR_OUTPUT);
     }
-    let header = bytes::header_bytes(layout);
+    let header = bytes::front_bytes(layout);
     store::put(&header, 0, out);
     store::put_samples(layout, out);
     Writing::Done

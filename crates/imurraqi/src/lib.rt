@@ -88,7 +88,7 @@ pub extern "C" fn imurraqi_descriptor_read(bytes: &[u8], layout: &mut [u8; 8]) -
 // Writes the descriptor of a layout. Answers 0.
 #[no_mangle]
 pub extern "C" fn imurraqi_descriptor_write(layout: &[u8; 8], out: &mut [u8]) -> i64
-    ensures answer { λ r. ⌜ r ≡ writtenNumber (writeAnswer (layoutOf (now (layout .entry))) (now (out .entry))) ⌝ }
+    ensures answer { λ r. ⌜ r ≡ writtenNumber (writeAnswer (layoutOf (now (layout .entry))) (length (now (out .entry)))) ⌝ }
     ensures memory { λ _. ⌜ now (out .exit) ≡ writeOutput (layoutOf (now (layout .entry))) (now (out .entry)) ⌝ }
 {
     match descriptor::write(layout_of(layout), out) {

@@ -9,21 +9,7 @@ use Rattle.samples.specs.declared.sample.Sample.{Sample}
 use Rattle.samples.specs.declared.samples.Samples.{Samples}
 use Rattle.samples.specs.Limits.{lowerOf, upperOf}
 
--- ---- the range that samples of n bits state
-
--- a sample states a range
-unfoldable pub states : ℕ → Range → ℕ → Sample → Bool
-states model range n s = eqb (s .lower) (lowerOf range n) && eqb (s .upper) (upperOf range n (kindOf model (s .channel)))
-
--- all three do
-unfoldable pub allState : ℕ → Range → ℕ → Samples → Bool
-allState model range n s = states model range n (s .first) && states model range n (s .second) && states model range n (s .third)
-
--- the number of the range that all three state, and 0 if they state no one range
-unfoldable pub rangeIn : ℕ → ℕ → Samples → ℕ
-rangeIn model n s = cond (allState model Narrow n s) 1 (cond (allState model Full n s) 2 0)
-
--- ---- which samples are right
+-- ---- which samples are right: row 5
 
 -- each channel appears once
 abbrev pub eachOnce : ℕ → ℕ → ℕ → Bool
@@ -37,7 +23,7 @@ oneDepth a b c = depthKnown (a + 1) && eqb b a && eqb c a
 abbrev pub inOrder : ℕ → ℕ → ℕ → ℕ → ℕ → Bool
 inOrder n a b c bytes = leb (a + n) b && leb (b + n) c && leb (c + n) (8 * bytes)
 
--- lengths, positions, channels, offsets and order are right
+-- offsets, lengths, channels, positions and order are right
 unfoldable pub samplesRight : ℕ → Samples → Bool
 samplesRight bytes s =
     oneDepth (s .first .length) (s .second .length) (s .third .length)
@@ -46,3 +32,17 @@ samplesRight bytes s =
     && eqb (s .third .position) 0
     && eachOnce (s .first .channel) (s .second .channel) (s .third .channel)
     && inOrder (s .first .length + 1) (s .first .offset) (s .second .offset) (s .third .offset) bytes
+
+-- ---- the range that samples of n bits state: row 6
+
+-- a sample's lower and upper numbers are the range's, for its channel's kind
+unfoldable pub states : ℕ → Range → ℕ → Sample → Bool
+states model range n s = eqb (s .lower) (lowerOf range n) && eqb (s .upper) (upperOf range n (kindOf model (s .channel)))
+
+-- all three do
+unfoldable pub allState : ℕ → Range → ℕ → Samples → Bool
+allState model range n s = states model range n (s .first) && states model range n (s .second) && states model range n (s .third)
+
+-- the number of the range that all three state, and 0 if they state no one range
+unfoldable pub rangeIn : ℕ → ℕ → Samples → ℕ
+rangeIn model n s = cond (allState model Narrow n s) 1 (cond (allState model Full n s) 2 0)

@@ -31,8 +31,8 @@ returns-2 c =
     let e = refused-13 (a .layout) (now (a .out)) (ok (c .before)) (ne-eqb (length (now (a .out))) 76 (c .if2 .taken)) in
     (e, unchanged (a .layout) (now (a .out)) 13 e)
 
-header-bytes-requires : tie.Need-header-bytes-requires
-header-bytes-requires c κs = search needs
+front-bytes-requires : tie.Need-front-bytes-requires
+front-bytes-requires c κs = search needs
 
 slice-aggregate-put : tie.Need-slice-aggregate-put
 slice-aggregate-put c = search needs
@@ -58,8 +58,8 @@ returns-3 c =
     let e = done (a .layout) (now (a .out)) (ok (t .before)) (eq-eqb (length (now (a .out))) 76 (t .if2 .left)) in (
       e,
       changed (a .layout) (now (a .out)) (q .put-samples .last .1 .0) e
-          (descriptor-stored (a .layout) (now (a .out)) (h .header-bytes .result) (p .put .last .1 .1 .0) (q .put-samples .last .1 .0)
-          (t .if2 .left) (h .header-bytes .ensures) (p .put .ensures) (q .put-samples .ensures)),
+          (descriptor-stored (a .layout) (now (a .out)) (h .front-bytes .result) (p .put .last .1 .1 .0) (q .put-samples .last .1 .0)
+          (t .if2 .left) (h .front-bytes .ensures) (p .put .ensures) (q .put-samples .ensures)),
     )
 
 pub write-spec : {M : Type 1} → statement M
@@ -69,7 +69,7 @@ write-spec =
     valid-requires
     returns
     returns-2
-    header-bytes-requires
+    front-bytes-requires
     slice-aggregate-put
     put-requires
     put-samples-requires

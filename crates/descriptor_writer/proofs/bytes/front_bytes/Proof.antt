@@ -1,0 +1,13 @@
+-- `descriptor_writer::bytes::front_bytes` meets its contract: the literal is the definition's list. Assumes nothing.
+use Rattle.descriptor_writer.specs.Writing.{frontBytes}
+use Rattle.lists.specs.Bytes.{bytesOf}
+use mathlib.Core.Path.{refl}
+use Rattle.descriptor_writer.proofs.bytes.front_bytes.Statement.{statement}
+use Rattle.descriptor_writer.proofs.bytes.front_bytes.Tie as tie
+
+returns : tie.Need-returns
+unfolding frontBytes bytesOf
+returns c = refl
+
+pub front-bytes-spec : {M : Type 1} → statement M
+front-bytes-spec = tie.close (tie.spec returns)
