@@ -16,7 +16,7 @@ rising a b c =
     (cond (ltb (b .offset) (c .offset)) (record { first = b; second = c; third = a })
     (record { first = c; second = b; third = a })))
 
--- those of a layout
+-- the fields of a layout
 unfoldable pub fieldsOf : Layout → Fields
 fieldsOf l =
     rising (record { channel = 0; offset = l .offset0 }) (record { channel = 1; offset = l .offset1 }) (record { channel = 2; offset = l .offset2 })

@@ -10,7 +10,7 @@ use Rattle.samples.specs.Limits.{lowerOf, upperOf}
 use Rattle.descriptor_writer.specs.declared.field.Field.{Field}
 use Rattle.descriptor_writer.specs.Field.{fieldsOf}
 
--- of one field
+-- the sample of one field
 unfoldable pub sampleOf : Layout → Field → Sample
 sampleOf l field =
     record {
@@ -22,7 +22,7 @@ sampleOf l field =
       upper = upperOf (rangeOf (l .range)) (l .depth) (kindOf (l .model) (field .channel));
     }
 
--- of all three, in rising bit offset
+-- the samples of all three, in rising bit offset
 unfoldable pub samplesOf : Layout → Samples
 samplesOf l =
     let fields = fieldsOf l in
