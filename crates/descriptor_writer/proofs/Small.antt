@@ -1,10 +1,9 @@
 -- The bytes of a sample whose numbers are small. Assumes nothing.
-use mathlib.Core.Path.{_≡_, refl, sym}
-use mathlib.Core.List.{List, [], _∷_, _++_}
+use mathlib.Core.Path.{_≡_, sym}
+use mathlib.Core.List.{[], _∷_, _++_}
 use Prim.Native.Nat.{ℕ, _/_, _%_, _<_}
 use native.Mathlib.Omega.{arith}
 use Rattle.lists.specs.Bytes.{bytesOf}
-use Rattle.samples.specs.declared.sample.Sample.{Sample}
 use Rattle.descriptor_writer.specs.Sample.{sampleBytes}
 
 one-byte : (x : ℕ) → x < 256 → bytesOf x 2 ≡ x ∷ 0 ∷ []

@@ -3,4 +3,5 @@ mod Cleared
 mod Back
 mod Whole
 mod Accepted
+mod Examples
 pub mod Claims

@@ -1,7 +1,6 @@
 -- `descriptor_writer::write` meets its contract, row by row, and the stored parts are the descriptor. Assumes nothing.
 use mathlib.Core.Path.{_≡_, sym, _∙_}
 use mathlib.Core.Bool.{true}
-use native.Mathlib.Omega.{arith}
 use denote.Ref.{now}
 use lib.ListN.{length}
 use borrow.Author.Tests.{ne-eqb, eq-eqb, not-true, not-false}

@@ -1,11 +1,9 @@
 -- `descriptor_reader::header::all_zero` meets its contract: the invariant is the test of the bytes so far. Assumes nothing.
 use denote.Ref.{now}
 use Prim.Native.Nat.{_≤_, _-_}
-use mathlib.Core.Path.{_≡_, refl, sym, ap, ap₂, _∙_}
-use mathlib.Core.Bool.{Bool, _&&_}
+use mathlib.Core.Path.{_≡_, refl, ap, _∙_}
 use native.Mathlib.Numerals.{add-one}
 use native.Mathlib.Omega.{arith}
-use lib.ListN.{length}
 use Rattle.descriptor_reader.specs.Header.{zeros}
 use Rattle.descriptor_reader.proofs.header.all_zero.Statement.{statement}
 use Rattle.descriptor_reader.proofs.header.all_zero.Tie as tie

@@ -1,17 +1,13 @@
 -- `packing::encode::points` meets its contract: each turn but the last two fills in one point's bytes, and the last two wait. Assumes nothing.
 use Prim.Native.Nat.{ℕ, _+_, _*_, _-_, _≤_, _<_, min}
 use native.Mathlib.Omega.{arith}
-use mathlib.Core.Path.{_≡_, refl, sym, ap, _∙_}
+use mathlib.Core.Path.{_≡_, refl, ap, _∙_}
 use mathlib.Core.Logic.{inl, inr}
-use mathlib.Core.Bool.{true}
 use mathlib.Core.List.{List}
-use lib.ListN.{length}
 use Rattle.lists.proofs.Filled.{Filled}
-use Rattle.layout.specs.Layout.{validLayout}
 use Rattle.layout.proofs.Facts.{Valid, valid-says}
 use Rattle.line.specs.Line.{joined, byteAt, packedOf}
-use Rattle.packing.specs.Encode.{quantizedOf, allNumbers}
-use Rattle.packing.specs.Whole.{Fitted}
+use Rattle.packing.specs.Encode.{quantizedOf}
 use Rattle.packing.proofs.Encodes.{length-quantized}
 use Rattle.packing.proofs.Packs.{room, room8, bytes-none, bytes-as, bytes-more, bytes-all}
 use Rattle.packing.proofs.encode.points.Statement.{statement}
