@@ -32,7 +32,7 @@ int64_t imurraqi_descriptor_write(const uint8_t layout[8], uint8_t *out,
 
 /* The float of a code: the f32 nearest to the fraction that it stands for.
  * Answers 0 for a brightness, 1 for a difference. Refused: 9, then 14.
- * value: one float, not null. */
+ * value: one float. */
 int64_t imurraqi_dequantize(uint8_t model, uint8_t range, uint8_t depth,
                             uint8_t channel, uint16_t code, float *value);
 

@@ -1,4 +1,4 @@
--- The bits of a packed line that no field uses: document 01, "Layout". Assumes nothing.
+-- The bits of a packed line that no field uses, which are written as zero: document 01, "Layout" and "Codes and floats". Assumes nothing.
 use Prim.Native.Nat.{ℕ, _%_}
 use mathlib.Core.List.{List}
 use lib.Bits.{bitAnd}
