@@ -1,7 +1,7 @@
 -- Exact fractions, and how one is rounded to a whole number: document 01, "Codes and floats". Assumes nothing.
 use Prim.Native.Nat.{ℕ, zero, suc, _*_, _/_, min, max}
 use mathlib.Core.Path.{_≡_}
-use lib.IntN.{ℤ, pos, negsuc, natAbs, _+ℤ_, _*ℤ_}
+use lib.IntN.{ℤ, pos, negsuc, natAbs, _+ℤ_, _-ℤ_, _*ℤ_}
 
 -- ---- fractions
 
@@ -27,6 +27,20 @@ n · x = pos n *ℤ x .num over x .den
 infixl 6 _⊕_
 abbrev pub _⊕_ : Fraction → ℕ → Fraction
 x ⊕ n = x .num +ℤ pos (n * x .den) over x .den
+
+-- x + y and x - y
+infixl 6 _⊞_
+abbrev pub _⊞_ : Fraction → Fraction → Fraction
+x ⊞ y = x .num *ℤ pos (y .den) +ℤ y .num *ℤ pos (x .den) over x .den * y .den
+
+infixl 6 _⊟_
+abbrev pub _⊟_ : Fraction → Fraction → Fraction
+x ⊟ y = x .num *ℤ pos (y .den) -ℤ y .num *ℤ pos (x .den) over x .den * y .den
+
+-- a / b of x, for whole numbers a and b
+infix 7 _∕_of_
+abbrev pub _∕_of_ : ℕ → ℕ → Fraction → Fraction
+a ∕ b of x = pos a *ℤ x .num over b * x .den
 
 -- 1/2 + x
 abbrev pub plusHalf : Fraction → Fraction

@@ -1,3 +1,4 @@
 pub mod Points
 pub mod Joins
 pub mod Answers
+mod Within

@@ -28,7 +28,7 @@ pub fn pack_line(layout: Layout, codes: &[u16], out: &mut [u8]) -> LineAnswer
     if !((codes.len() % 3 == 0) & (n <= 4096) & (out.len() == size * n)) {
         return LineAnswer::Refused(refusal::WRONG_LINE_OR_OUTPUT);
     }
-    if !pack::all_within(codes, Depth::of(layout.depth).top()) {
+    if !line::all_within(codes, Depth::of(layout.depth).top()) {
         return LineAnswer::Refused(refusal::CODE_TOO_HIGH);
     }
     pack::points(layout, codes, out, n);

@@ -1,0 +1,6 @@
+mod Table
+mod Sizes
+pub mod Whole
+mod Lines
+mod Rows
+mod Answers
