@@ -21,11 +21,10 @@ use Rattle.quantization.specs.Value.{valueOf}
 use Rattle.quantization.specs.Code.{codeOfValue, codeOf}
 use Rattle.quantization.specs.Answer.{channelKnownAt, channelScale, named, dequantized, orRefused, quantized}
 use Rattle.quantization.proofs.Scales.{ends}
-use Rattle.quantization_laws.specs.Claims.{Dequantizes, Quantizes, QuantizesOthers, ZeroIsPlus, Returns, MarkedRight}
+use Rattle.quantization_laws.specs.Claims.{Dequantizes, Quantizes, QuantizesOthers, ZeroIsPlus, Returns}
 use Rattle.quantization_laws.specs.Printed.{printedUnclamped}
 use Rattle.quantization_laws.specs.Pattern.{patternValue}
 use Rattle.quantization_laws.specs.Nearest.{NearestTo}
-use Rattle.quantization_laws.specs.Marked.{marked, given, stated}
 use Rattle.quantization_laws.proofs.Printed.{value-printed, unclamped-printed}
 use Rattle.quantization_laws.proofs.Pattern.{pattern-code}
 use Rattle.quantization_laws.proofs.Return.{code-returns}
@@ -92,7 +91,3 @@ returns model range n channel c v e = go (channelKnownAt model range n channel) 
         let d = depth-between model range n channel p in
         ap (λ (x : Float). orRefused (codeOf (channelScale model range n channel) x)) (sym (told (kindOf model channel) (valueOf (channelScale model range n channel) c) v e))
         ∙ ap orRefused (code-returns (rangeOf range) (kindOf model channel) n c (d .0) (d .1) (ltb-false (topOf n) c q))
-
-pub marked-right : MarkedRight
-unfolding given stated marked
-marked-right = refl

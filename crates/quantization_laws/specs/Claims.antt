@@ -2,7 +2,6 @@
 use Prim.Native.Nat.{ℕ, _≤_, _<_}
 use mathlib.Core.Bool.{true, false}
 use mathlib.Core.Path.{_≡_}
-use mathlib.Core.List.{map}
 use lib.IntN.{pos}
 use lib.Ieee.{Float, nan, inf, fin, binary32, ofBits}
 use Rattle.fractions.specs.Fraction.{clamp}
@@ -17,7 +16,6 @@ use Rattle.quantization.specs.Answer.{channelKnownAt, named, dequantized, quant
 use Rattle.quantization_laws.specs.Printed.{printedValue, printedUnclamped}
 use Rattle.quantization_laws.specs.Nearest.{NearestTo}
 use Rattle.quantization_laws.specs.Pattern.{fieldOf, patternValue}
-use Rattle.quantization_laws.specs.Marked.{marked, given, stated}
 
 -- a code of a known channel becomes a float, under the name of its kind, that is the nearest of all floats to the fraction in the paper's line
 abbrev pub Dequantizes : Type 0
@@ -48,7 +46,3 @@ abbrev pub Returns : Type 0
 Returns =
     (model range n channel c : ℕ) (v : Float) → dequantized model range n channel c ≡ named (kindOf model channel) v
     → quantized model range n channel v ≡ Code c
-
--- the marked examples M1 to M10
-abbrev pub MarkedRight : Type 0
-MarkedRight = map given marked ≡ map stated marked

@@ -2,4 +2,3 @@ pub mod Claims
 pub mod Printed
 pub mod Nearest
 pub mod Pattern
-pub mod Marked

@@ -1,0 +1,48 @@
+-- What is claimed of the conversion: document 01, "Between R'G'B' and Y'CbCr", of the definitions that the entries' contracts cite; and the marked examples. proofs/Claims.antt proves each. Assumes nothing.
+use Prim.Native.Nat.{ℕ, _+_, _<_}
+use mathlib.Core.Bool.{true}
+use mathlib.Core.Path.{_≡_}
+use mathlib.Core.List.{map}
+use Rattle.fractions.specs.Fraction.{Fraction, Same}
+use Rattle.layout.specs.Layout.{primariesKnown}
+use Rattle.color_model.specs.declared.weights.Weights.{Weights}
+use Rattle.color_model.specs.Weights.{weightsOf, greenOf}
+use Rattle.color_model.specs.Equations.{lumaOf, chromaOf, primaryOf, greenFrom}
+use Rattle.color_model_laws.specs.Marked.{marked, given, stated}
+
+-- three weights above 0, and together they are 1
+abbrev pub Shares : Weights → Type 0
+Shares w = (0 < w .red) × (0 < greenOf w) × (0 < w .blue) × (w .red + greenOf w + w .blue ≡ 10000)
+
+-- every row of the paper
+abbrev pub RowsRight : Type 0
+RowsRight = (primaries : ℕ) → primariesKnown primaries ≡ true → Shares (weightsOf primaries)
+
+-- x is over a number above 0, and the same number as y
+abbrev pub Equals : Fraction → Fraction → Type 0
+Equals x y = (0 < x .den) × Same x y
+
+-- before any rounding, R', G', B' come back from their Y', Cb, Cr, wherever green has a weight
+abbrev pub Inverts : Type 0
+Inverts =
+    (w : Weights) (r g b : Fraction) → 0 < greenOf w → 0 < r .den → 0 < g .den → 0 < b .den
+    → let y = lumaOf w r g b in
+    let cb = chromaOf (w .blue) b y in
+    let cr = chromaOf (w .red) r y in
+    let red = primaryOf (w .red) y cr in
+    let blue = primaryOf (w .blue) y cb in
+    Equals red r × Equals (greenFrom w y red blue) g × Equals blue b
+
+-- and Y', Cb, Cr from their R', G', B'
+abbrev pub InvertsBack : Type 0
+InvertsBack =
+    (w : Weights) (y cb cr : Fraction) → 0 < greenOf w → 0 < y .den → 0 < cb .den → 0 < cr .den
+    → let r = primaryOf (w .red) y cr in
+    let b = primaryOf (w .blue) y cb in
+    let g = greenFrom w y r b in
+    let luma = lumaOf w r g b in
+    Equals luma y × Equals (chromaOf (w .blue) b luma) cb × Equals (chromaOf (w .red) r luma) cr
+
+-- the marked examples M1 to M12
+abbrev pub MarkedRight : Type 0
+MarkedRight = map given marked ≡ map stated marked
