@@ -11,15 +11,17 @@ use lib.IntN.{ℤ}
 use lib.ListN.{length}
 use mir.Syntax.{w64}
 use mir.Val.{toZ, ofZ}
+use Rattle.lists.specs.Lists.{every}
 use Rattle.lists.proofs.Tests.{and3}
 use Rattle.layout.specs.declared.Layout.{Layout}
-use Rattle.layout.specs.Layout.{validLayout, codesWithin}
+use Rattle.layout.specs.Layout.{validLayout, topOf, codesWithin}
 use Rattle.layout.specs.Refusal.{outside, notANumber, wrongLineOrOutput, codeTooHigh}
 use Rattle.line.specs.declared.LineAnswer.{LineAnswer}
 use Rattle.line.specs.declared.LineAnswer.the-variants.{Points, Refused}
 use Rattle.line.specs.Answer.{fitting, points, unpackAnswer, packAnswer}
 use Rattle.line.proofs.Answers.{packed-points}
 use Rattle.packing.specs.Encode.{allNumbers, encodeAnswer}
+use Rattle.color_model.specs.Line.{convertible, conversionAnswer}
 use Rattle.imurraqi.specs.Numbers.{lineNumber}
 use Rattle.imurraqi.specs.Whole.{smallLine}
 use Rattle.imurraqi.proofs.Numbers.{passed, passed-count}
@@ -55,6 +57,11 @@ pack-small l cs bytes = three (validLayout l) (fitting (length cs) 3 bytes (l .b
 pub encode-small : (l : Layout) (vs : List Float) (bytes : ℕ) → smallLine (encodeAnswer l vs bytes) ≡ true
 unfolding encodeAnswer
 encode-small l vs bytes = three (validLayout l) (fitting (length vs) 3 bytes (l .bytes)) (allNumbers vs) notANumber (points l bytes) refl (packed-count l (length vs) bytes)
+
+pub conversion-small : (p d f t : ℕ) (cs : List ℕ) (output : ℕ) → smallLine (conversionAnswer p d f t cs output) ≡ true
+unfolding conversionAnswer
+conversion-small p d f t cs output =
+    three (convertible p d f t) (fitting (length cs) 3 output 3) (every (λ c. leb c (topOf d)) cs) codeTooHigh (Points (length cs / 3)) refl (λ e. count (length cs) 3 output 3)
 
 -- a line's number handed on by a call
 passed-line : (a : LineAnswer) → smallLine a ≡ true → (z : ℤ) → z ≡ lineNumber a → toZ w64 (ofZ w64 z) ≡ lineNumber a

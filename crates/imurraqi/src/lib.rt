@@ -9,6 +9,7 @@ ghost use Rattle.descriptor_reader.specs.Reading.{readDescriptor};
 ghost use Rattle.descriptor_writer.specs.Writing.{writeAnswer, writeOutput};
 ghost use Rattle.line.specs.Answer.{unpackAnswer, unpackOutput, packAnswer, packOutput};
 ghost use Rattle.packing.specs.Encode.{encodeAnswer, encodeOutput, pointValues};
+ghost use Rattle.color_model.specs.Line.{conversionAnswer, toYcbcrOutput, toRgbOutput};
 ghost use Rattle.imurraqi.specs.Numbers.{dequantizedNumber, dequantizedValue, quantizedNumber, lineNumber, readNumber, readLayout, writtenNumber};
 ghost use Rattle.imurraqi.specs.Layouts.{layoutOf, layoutBytes, pointOf};
 ghost use Rattle.imurraqi.specs.Whole.{smallLine};
@@ -179,4 +180,36 @@ pub extern "C" fn imurraqi_pack_line(layout: &[u8; 8], codes: &[u16], out: &mut 
     ensures memory { λ _. ⌜ now (out .exit) ≡ packOutput (layoutOf (now (layout .entry))) (now (codes .entry)) (now (out .entry)) ⌝ }
 {
     line_number(scanline::pack_line(layout_of(layout), codes, out))
+}
+
+// Converts a line of codes of R', G', B', three a point, to Y', Cb, Cr. Answers the count of points.
+#[no_mangle]
+pub extern "C" fn imurraqi_rgb_to_ycbcr(
+    primaries: u8,
+    depth: u8,
+    range_in: u8,
+    range_out: u8,
+    codes: &[u16],
+    out: &mut [u16],
+) -> i64
+    ensures answer { λ r. ⌜ r ≡ lineNumber (conversionAnswer primaries depth «range_in» «range_out» (now (codes .entry)) (length (now (out .entry)))) ⌝ }
+    ensures memory { λ _. ⌜ now (out .exit) ≡ toYcbcrOutput primaries depth «range_in» «range_out» (now (codes .entry)) (now (out .entry)) ⌝ }
+{
+    line_number(color_model::rgb_to_ycbcr(primaries, depth, range_in, range_out, codes, out))
+}
+
+// Converts a line of codes of Y', Cb, Cr to R', G', B'. Answers the count of points.
+#[no_mangle]
+pub extern "C" fn imurraqi_ycbcr_to_rgb(
+    primaries: u8,
+    depth: u8,
+    range_in: u8,
+    range_out: u8,
+    codes: &[u16],
+    out: &mut [u16],
+) -> i64
+    ensures answer { λ r. ⌜ r ≡ lineNumber (conversionAnswer primaries depth «range_in» «range_out» (now (codes .entry)) (length (now (out .entry)))) ⌝ }
+    ensures memory { λ _. ⌜ now (out .exit) ≡ toRgbOutput primaries depth «range_in» «range_out» (now (codes .entry)) (now (out .entry)) ⌝ }
+{
+    line_number(color_model::ycbcr_to_rgb(primaries, depth, range_in, range_out, codes, out))
 }
