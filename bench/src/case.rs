@@ -1,18 +1,20 @@
 //! One job on one line, done by the library and by plain Rust.
 
+use std::fmt::Debug;
 use std::hint::black_box;
 use std::time::Instant;
 
 use crate::inputs::POINTS;
-use crate::layout::Numbers;
 
 /// Lines in one measurement: enough for the clock, few enough to stay undisturbed.
 const LINES: u32 = 8;
 
 pub struct Case {
     pub job: &'static str,
+    /// What is special about the setting, and its depth.
+    pub setting: String,
+    pub depth: u8,
     pub input: &'static str,
-    pub layout: Numbers,
     library: Side,
     plain: Side,
 }
@@ -24,35 +26,37 @@ struct Side {
     times: Vec<f64>,
 }
 
-/// A job: layout, input and output, answering the count of points.
-pub type Job<I, O> = fn(Numbers, &[I], &mut [O]) -> i64;
+/// A job: layout or conversion, input and output, answering the count of points.
+pub type Job<S, I, O> = fn(S, &[I], &mut [O]) -> i64;
 
 impl Case {
     /// An error if the two programs do not give the same output.
-    pub fn new<I, O>(
+    pub fn new<S, I, O>(
         job: &'static str,
+        (numbers, setting, depth): (S, String, u8),
         (input, elements): (&'static str, &[I]),
-        layout: Numbers,
         output_length: usize,
-        [library, plain]: [Job<I, O>; 2],
+        [library, plain]: [Job<S, I, O>; 2],
     ) -> Result<Case, String>
     where
+        S: Copy + Debug + 'static,
         I: Copy + 'static,
         O: Copy + Default + PartialEq + 'static,
     {
         let [by_library, by_plain] = [library, plain].map(|job| {
             let mut output = vec![O::default(); output_length];
-            (job(layout, elements, &mut output), output)
+            (job(numbers, elements, &mut output), output)
         });
         if by_library != by_plain || by_plain.0 != POINTS as i64 {
-            return Err(format!("{job} {layout:?}, {input}: different outputs"));
+            return Err(format!("{job} {numbers:?}, {input}: different outputs"));
         }
         Ok(Case {
             job,
+            setting,
+            depth,
             input,
-            layout,
-            library: Side::new(library, layout, elements, output_length),
-            plain: Side::new(plain, layout, elements, output_length),
+            library: Side::new(library, numbers, elements, output_length),
+            plain: Side::new(plain, numbers, elements, output_length),
         })
     }
 
@@ -81,8 +85,9 @@ impl Case {
 }
 
 impl Side {
-    fn new<I, O>(job: Job<I, O>, layout: Numbers, elements: &[I], output_length: usize) -> Side
+    fn new<S, I, O>(job: Job<S, I, O>, numbers: S, elements: &[I], output_length: usize) -> Side
     where
+        S: Copy + 'static,
         I: Copy + 'static,
         O: Copy + Default + 'static,
     {
@@ -91,7 +96,7 @@ impl Side {
         Side {
             run: Box::new(move || {
                 black_box(job(
-                    black_box(layout),
+                    black_box(numbers),
                     black_box(&elements),
                     black_box(&mut output),
                 ));

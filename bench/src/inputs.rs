@@ -2,6 +2,7 @@
 
 use std::f32::consts::TAU;
 
+use crate::color;
 use crate::layout::Numbers;
 use crate::plain;
 
@@ -39,10 +40,44 @@ pub fn smooth(layout: Numbers) -> Line {
     }
 }
 
+/// R'G'B' codes of slow waves, a little beyond the range here and there, and the
+/// Y'CbCr codes that they are in the same range.
+pub fn smooth_colors(primaries: u8, depth: u8, range: u8) -> [Vec<u16>; 2] {
+    let s = 1 << (depth - 8);
+    let [lower, upper] = match range {
+        1 => [16 * s, 235 * s],
+        _ => [0, (1 << depth) - 1],
+    };
+    let greatest = ((1 << depth) - 1) as f32;
+    let rgb: Vec<u16> = (0..POINTS)
+        .flat_map(|point| {
+            let turn = TAU * point as f32 / POINTS as f32;
+            [
+                0.5 + 0.51 * (3.0 * turn).sin(),
+                0.5 + 0.51 * (5.0 * turn).cos(),
+                0.5 + 0.51 * (7.0 * turn).sin(),
+            ]
+        })
+        .map(|value| {
+            let code = lower as f32 + value * (upper - lower) as f32;
+            code.round().clamp(0.0, greatest) as u16
+        })
+        .collect();
+    let mut ycbcr = vec![0; rgb.len()];
+    color::rgb_to_ycbcr([primaries, depth, range, range], &rgb, &mut ycbcr);
+    [rgb, ycbcr]
+}
+
+/// Any codes of a depth.
+pub fn random_colors(depth: u8) -> Vec<u16> {
+    let mut random = Random::new();
+    (0..3 * POINTS).map(|_| random.code(depth)).collect()
+}
+
 /// Floats of either sign from 2^-15 to 2, any codes, any bytes.
 pub fn random(layout: Numbers) -> Line {
     let [_, _, _, depth, ..] = layout;
-    let mut random = Random(0x9e37_79b9_7f4a_7c15);
+    let mut random = Random::new();
     Line {
         values: (0..3 * POINTS)
             .map(|_| {
@@ -51,9 +86,7 @@ pub fn random(layout: Numbers) -> Line {
                 f32::from_bits(bits & 0x807f_ffff | field << 23)
             })
             .collect(),
-        codes: (0..3 * POINTS)
-            .map(|_| (random.next() >> (32 - depth)) as u16)
-            .collect(),
+        codes: (0..3 * POINTS).map(|_| random.code(depth)).collect(),
         packed: (0..packed_length(layout))
             .map(|_| random.next() as u8)
             .collect(),
@@ -69,6 +102,14 @@ pub fn packed_length(layout: Numbers) -> usize {
 struct Random(u64);
 
 impl Random {
+    fn new() -> Random {
+        Random(0x9e37_79b9_7f4a_7c15)
+    }
+
+    fn code(&mut self, depth: u8) -> u16 {
+        (self.next() >> (32 - depth)) as u16
+    }
+
     fn next(&mut self) -> u32 {
         self.0 ^= self.0 << 13;
         self.0 ^= self.0 >> 7;

@@ -10,7 +10,7 @@ pub const NOT_A_NUMBER: i64 = -12;
 pub const LENGTH: i64 = -13;
 pub const CODE_TOO_HIGH: i64 = -14;
 
-const MOST_POINTS: usize = 4096;
+pub const MOST_POINTS: usize = 4096;
 
 #[derive(Clone, Copy)]
 pub struct Layout {
@@ -66,7 +66,7 @@ impl Layout {
 }
 
 impl Scale {
-    fn new(range: u8, depth: u8, difference: bool) -> Scale {
+    pub fn new(range: u8, depth: u8, difference: bool) -> Scale {
         let s = 1 << (depth - 8);
         let greatest = (1 << depth) - 1;
         let (span, base) = match (range, difference) {

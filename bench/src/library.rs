@@ -1,5 +1,6 @@
 //! The library that is measured.
 
+use crate::color::Conversion;
 use crate::layout::Numbers;
 
 extern "C" {
@@ -24,6 +25,28 @@ extern "C" {
         values: *const f32,
         length: usize,
         out: *mut u8,
+        out_length: usize,
+    ) -> i64;
+
+    fn imurraqi_rgb_to_ycbcr(
+        primaries: u8,
+        depth: u8,
+        range_in: u8,
+        range_out: u8,
+        codes: *const u16,
+        length: usize,
+        out: *mut u16,
+        out_length: usize,
+    ) -> i64;
+
+    fn imurraqi_ycbcr_to_rgb(
+        primaries: u8,
+        depth: u8,
+        range_in: u8,
+        range_out: u8,
+        codes: *const u16,
+        length: usize,
+        out: *mut u16,
         out_length: usize,
     ) -> i64;
 }
@@ -64,6 +87,40 @@ pub fn encode_line(layout: Numbers, values: &[f32], packed: &mut [u8]) -> i64 {
             values.len(),
             packed.as_mut_ptr(),
             packed.len(),
+        )
+    }
+}
+
+pub fn rgb_to_ycbcr(conversion: Conversion, rgb: &[u16], ycbcr: &mut [u16]) -> i64 {
+    let [primaries, depth, range_in, range_out] = conversion;
+    // SAFETY: as for `unpack_line`.
+    unsafe {
+        imurraqi_rgb_to_ycbcr(
+            primaries,
+            depth,
+            range_in,
+            range_out,
+            rgb.as_ptr(),
+            rgb.len(),
+            ycbcr.as_mut_ptr(),
+            ycbcr.len(),
+        )
+    }
+}
+
+pub fn ycbcr_to_rgb(conversion: Conversion, ycbcr: &[u16], rgb: &mut [u16]) -> i64 {
+    let [primaries, depth, range_in, range_out] = conversion;
+    // SAFETY: as for `unpack_line`.
+    unsafe {
+        imurraqi_ycbcr_to_rgb(
+            primaries,
+            depth,
+            range_in,
+            range_out,
+            ycbcr.as_ptr(),
+            ycbcr.len(),
+            rgb.as_mut_ptr(),
+            rgb.len(),
         )
     }
 }

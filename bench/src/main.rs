@@ -1,12 +1,14 @@
-//! Measures the library's lines beside plain Rust of the same shape.
+//! Measures the library's lines and colors beside plain Rust of the same shape.
 
 use std::process::ExitCode;
 
 use crate::case::Case;
+use crate::color::Conversion;
 use crate::inputs::{packed_length, POINTS};
 use crate::layout::Numbers;
 
 mod case;
+mod color;
 mod inputs;
 mod layout;
 mod library;
@@ -15,7 +17,7 @@ mod plain;
 /// Odd, so that there is a median.
 const ROUNDS: usize = 101;
 
-const JOBS: [&str; 3] = ["unpack", "pack", "encode"];
+const JOBS: [&str; 5] = ["unpack", "pack", "encode", "to Y'CbCr", "to R'G'B'"];
 
 /// Narrow Y'CbCr: 8 bits in 3 bytes, 10 in 4, 12 in 5, and 12 in 8, each in the
 /// upper bits of 16.
@@ -25,6 +27,11 @@ const LAYOUTS: [Numbers; 4] = [
     [2, 4, 1, 12, 5, 0, 12, 24],
     [2, 4, 1, 12, 8, 4, 20, 36],
 ];
+
+const DEPTHS: [u8; 3] = [8, 10, 12];
+
+/// The ranges of R'G'B' and of Y'CbCr: both narrow, both full, and the usual two.
+const RANGES: [[u8; 2]; 3] = [[1, 1], [2, 2], [2, 1]];
 
 fn main() -> ExitCode {
     let mut cases = match cases() {
@@ -48,56 +55,105 @@ fn main() -> ExitCode {
 fn cases() -> Result<Vec<Case>, String> {
     let mut cases = Vec::new();
     for layout in LAYOUTS {
-        let lines = [
-            ("smooth", inputs::smooth(layout)),
-            ("random", inputs::random(layout)),
-        ];
-        for (input, line) in lines {
-            let codes = 3 * POINTS;
-            let bytes = packed_length(layout);
-            let unpack = [library::unpack_line, plain::unpack_line];
-            let pack = [library::pack_line, plain::pack_line];
-            let encode = [library::encode_line, plain::encode_line];
-            cases.push(Case::new(
-                JOBS[0],
-                (input, &line.packed),
-                layout,
-                codes,
-                unpack,
-            )?);
-            cases.push(Case::new(
-                JOBS[1],
-                (input, &line.codes),
-                layout,
-                bytes,
-                pack,
-            )?);
-            cases.push(Case::new(
-                JOBS[2],
-                (input, &line.values),
-                layout,
-                bytes,
-                encode,
-            )?);
+        add_lines(&mut cases, layout)?;
+    }
+    for ranges in RANGES {
+        for depth in DEPTHS {
+            add_colors(&mut cases, ranges, depth)?;
         }
     }
     Ok(cases)
 }
 
+fn add_lines(cases: &mut Vec<Case>, layout: Numbers) -> Result<(), String> {
+    let [unpack, pack, encode, ..] = JOBS;
+    let [_, _, _, depth, bytes, ..] = layout;
+    let setting = || (layout, format!("{bytes} bytes"), depth);
+    let lines = [
+        ("smooth", inputs::smooth(layout)),
+        ("random", inputs::random(layout)),
+    ];
+    for (input, line) in lines {
+        let codes = 3 * POINTS;
+        let bytes = packed_length(layout);
+        cases.push(Case::new(
+            unpack,
+            setting(),
+            (input, &line.packed),
+            codes,
+            [library::unpack_line, plain::unpack_line],
+        )?);
+        cases.push(Case::new(
+            pack,
+            setting(),
+            (input, &line.codes),
+            bytes,
+            [library::pack_line, plain::pack_line],
+        )?);
+        cases.push(Case::new(
+            encode,
+            setting(),
+            (input, &line.values),
+            bytes,
+            [library::encode_line, plain::encode_line],
+        )?);
+    }
+    Ok(())
+}
+
+/// BT.709 up to 10 bits and BT.2020 at 12, with these ranges of R'G'B' and Y'CbCr.
+fn add_colors(cases: &mut Vec<Case>, [rgb, ycbcr]: [u8; 2], depth: u8) -> Result<(), String> {
+    let [.., to_ycbcr, to_rgb] = JOBS;
+    let primaries = if depth == 12 { 4 } else { 1 };
+    let setting = |range_in, range_out| {
+        let conversion: Conversion = [primaries, depth, range_in, range_out];
+        let ranges = format!("{}-{}", range_name(range_in), range_name(range_out));
+        (conversion, ranges, depth)
+    };
+    let random = inputs::random_colors(depth);
+    let [smooth_rgb, _] = inputs::smooth_colors(primaries, depth, rgb);
+    let [_, smooth_ycbcr] = inputs::smooth_colors(primaries, depth, ycbcr);
+    for (input, codes) in [("smooth", &smooth_rgb), ("random", &random)] {
+        cases.push(Case::new(
+            to_ycbcr,
+            setting(rgb, ycbcr),
+            (input, codes),
+            codes.len(),
+            [library::rgb_to_ycbcr, color::rgb_to_ycbcr],
+        )?);
+    }
+    for (input, codes) in [("smooth", &smooth_ycbcr), ("random", &random)] {
+        cases.push(Case::new(
+            to_rgb,
+            setting(ycbcr, rgb),
+            (input, codes),
+            codes.len(),
+            [library::ycbcr_to_rgb, color::ycbcr_to_rgb],
+        )?);
+    }
+    Ok(())
+}
+
+fn range_name(range: u8) -> &'static str {
+    match range {
+        1 => "narrow",
+        _ => "full",
+    }
+}
+
 fn print(cases: &[Case]) {
     println!("nanoseconds a point, medians of {ROUNDS} rounds, lines of {POINTS} points");
-    println!("job     bytes  bits  input   library   plain  ratio");
+    println!("job        setting        bits  input   library   plain  ratio");
     for job in JOBS {
         let mut greatest: f64 = 0.0;
         for case in cases.iter().filter(|case| case.job == job) {
-            let [_, _, _, depth, bytes, ..] = case.layout;
             let [library, plain, ratio] = case.medians();
             greatest = greatest.max(ratio);
             println!(
-                "{job:6}{bytes:7}{depth:6}  {:6}{library:9.3}{plain:8.3}{ratio:7.2}",
-                case.input
+                "{job:11}{:13}{:6}  {:6}{library:9.3}{plain:8.3}{ratio:7.2}",
+                case.setting, case.depth, case.input
             );
         }
-        println!("{job:6}                   greatest ratio {greatest:11.2}");
+        println!("{job:11}                     greatest ratio {greatest:15.2}");
     }
 }

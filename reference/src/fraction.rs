@@ -1,15 +1,16 @@
 //! Exact fractions of whole numbers.
 
 use std::fmt;
-use std::ops::{Add, Mul};
+use std::ops::{Add, Div, Mul, Sub};
 
 pub const HALF: Fraction = Fraction::new(1, 2);
 
 /// A numerator over a denominator above zero.
 ///
-/// Fractions are never reduced: those of this work stay far below 2^127. If one
-/// did not, the checked products and sums would stop the program rather than
-/// let it give a wrong answer.
+/// Fractions are never reduced, but a sum keeps a denominator that both sides
+/// share: those of this work stay far below 2^127. If one did not, the checked
+/// products and sums would stop the program rather than let it give a wrong
+/// answer.
 #[derive(Clone, Copy, Debug)]
 pub struct Fraction {
     numerator: i128,
@@ -42,6 +43,11 @@ impl Fraction {
         Fraction::new(self.numerator.abs(), self.denominator)
     }
 
+    /// Whether both are the same number.
+    pub fn same(self, other: Fraction) -> bool {
+        (self - other).sign() == 0
+    }
+
     /// The greatest whole number that is not above the fraction.
     pub fn floor(self) -> i128 {
         // The denominator is positive, so Euclid's quotient is the floor.
@@ -53,6 +59,9 @@ impl Add<Fraction> for Fraction {
     type Output = Fraction;
 
     fn add(self, other: Fraction) -> Fraction {
+        if self.denominator == other.denominator {
+            return Fraction::new(sum(self.numerator, other.numerator), self.denominator);
+        }
         Fraction::new(
             sum(
                 product(self.numerator, other.denominator),
@@ -68,6 +77,22 @@ impl Add<i128> for Fraction {
 
     fn add(self, whole: i128) -> Fraction {
         self + Fraction::new(whole, 1)
+    }
+}
+
+impl Sub<Fraction> for Fraction {
+    type Output = Fraction;
+
+    fn sub(self, other: Fraction) -> Fraction {
+        self + -1 * other
+    }
+}
+
+impl Sub<Fraction> for i128 {
+    type Output = Fraction;
+
+    fn sub(self, fraction: Fraction) -> Fraction {
+        Fraction::new(self, 1) - fraction
     }
 }
 
@@ -95,6 +120,18 @@ impl Mul<Fraction> for i128 {
 
     fn mul(self, fraction: Fraction) -> Fraction {
         fraction * self
+    }
+}
+
+impl Div<Fraction> for Fraction {
+    type Output = Fraction;
+
+    /// The divisor must be above zero.
+    fn div(self, divisor: Fraction) -> Fraction {
+        Fraction::new(
+            product(self.numerator, divisor.denominator),
+            product(self.denominator, divisor.numerator),
+        )
     }
 }
 

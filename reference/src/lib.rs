@@ -4,6 +4,7 @@
 //! plainness to speed: every number is an exact fraction, every float is its
 //! 32 bits, and no float arithmetic is done anywhere.
 
+pub mod color;
 pub mod descriptor;
 pub mod fixed;
 pub mod float;

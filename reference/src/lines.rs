@@ -7,7 +7,7 @@ use crate::layout::Layout;
 use crate::quantization;
 use crate::refusal::Refusal;
 
-const MOST_POINTS: usize = 4096;
+pub const MOST_POINTS: usize = 4096;
 
 /// Fills `codes` from packed points, three codes a point. Answers the count of
 /// points, as the other lines do.

@@ -3,6 +3,7 @@
 use std::env;
 use std::process::ExitCode;
 
+use reference::color;
 use reference::descriptor;
 use reference::lines;
 use reference::quantization::{self, Kind, Scale};
@@ -14,16 +15,20 @@ usage: reference dequantize MODEL RANGE DEPTH CHANNEL CODE
        reference unpack LAYOUT BYTES
        reference pack LAYOUT CODE...
        reference encode LAYOUT VALUE...
+       reference ycbcr CONVERSION CODE...
+       reference rgb CONVERSION CODE...
        reference write LAYOUT
        reference read BYTES
-MODEL    1 RGB, 2 Y'CbCr
-RANGE    1 narrow, 2 full
-DEPTH    8, 10 or 12
-CHANNEL  0, 1 or 2
-VALUE    decimal text, rounded to the nearest float, or a float's bits as 0x...
-LAYOUT   model, primaries, range, depth, bytes a point, three bit offsets, as in
-         1,1,2,8,3,0,8,16
-BYTES    hexadecimal digits, two a byte: packed points, or a descriptor to read";
+MODEL       1 RGB, 2 Y'CbCr
+RANGE       1 narrow, 2 full
+DEPTH       8, 10 or 12
+CHANNEL     0, 1 or 2
+VALUE       decimal text, rounded to the nearest float, or a float's bits as 0x...
+LAYOUT      model, primaries, range, depth, bytes a point, three bit offsets, as in
+            1,1,2,8,3,0,8,16
+CONVERSION  primaries, depth, range of the given codes, range of the codes made, as
+            in 1,8,2,2
+BYTES       hexadecimal digits, two a byte: packed points, or a descriptor to read";
 
 fn main() -> ExitCode {
     let arguments: Vec<String> = env::args().skip(1).collect();
@@ -60,13 +65,22 @@ fn answer(arguments: &[&str]) -> Option<Result<String, Refusal>> {
             Some(code.map(|code| code.to_string()))
         }
         ["unpack", layout, packed] => Some(unpack(numbers(layout)?, &bytes(packed)?)),
-        ["pack", layout, ref codes @ ..] => {
-            let codes: Option<Vec<u16>> = codes.iter().map(|code| code.parse().ok()).collect();
-            Some(pack(numbers(layout)?, &codes?))
-        }
+        ["pack", layout, ref given @ ..] => Some(pack(numbers(layout)?, &codes(given)?)),
         ["encode", layout, ref values @ ..] => {
             let values: Option<Vec<u32>> = values.iter().map(|value| float_bits(value)).collect();
             Some(encode(numbers(layout)?, &values?))
+        }
+        ["ycbcr", conversion, ref given @ ..] => {
+            let rgb = codes(given)?;
+            let mut ycbcr = vec![0; rgb.len()];
+            let count = color::rgb_to_ycbcr(numbers(conversion)?, &rgb, &mut ycbcr);
+            Some(count.map(|_| separated(&ycbcr, " ")))
+        }
+        ["rgb", conversion, ref given @ ..] => {
+            let ycbcr = codes(given)?;
+            let mut rgb = vec![0; ycbcr.len()];
+            let count = color::ycbcr_to_rgb(numbers(conversion)?, &ycbcr, &mut rgb);
+            Some(count.map(|_| separated(&rgb, " ")))
         }
         ["write", layout] => Some(write(numbers(layout)?)),
         ["read", descriptor] => {
@@ -127,10 +141,14 @@ fn float_bits(text: &str) -> Option<u32> {
     }
 }
 
-/// Eight numbers with commas between them.
-fn numbers(text: &str) -> Option<[u8; 8]> {
+/// The numbers of a layout or a conversion, with commas between them.
+fn numbers<const COUNT: usize>(text: &str) -> Option<[u8; COUNT]> {
     let numbers: Option<Vec<u8>> = text.split(',').map(|number| number.parse().ok()).collect();
     numbers?.try_into().ok()
+}
+
+fn codes(given: &[&str]) -> Option<Vec<u16>> {
+    given.iter().map(|code| code.parse().ok()).collect()
 }
 
 fn bytes(digits: &str) -> Option<Vec<u8>> {

@@ -164,7 +164,7 @@ fn s(n: u32) -> i128 {
 }
 
 /// m = 2^n - 1
-fn m(n: u32) -> i128 {
+pub fn m(n: u32) -> i128 {
     two_to(n) - 1
 }
 

@@ -1,10 +1,11 @@
-//! Output memory whose every element is known before a call.
+//! Lent memory whose every element is known before a call.
 
 use std::fmt::Debug;
 
 const GUARD_BYTES: usize = 16;
 
-/// An output among guards of 16 bytes, so that a write beside it is seen.
+/// An output, or lent elements, among guards of 16 bytes, so that a write beside
+/// them is seen.
 #[derive(Clone, PartialEq)]
 pub struct Guarded<T> {
     memory: Vec<T>,
@@ -38,8 +39,19 @@ impl<T: Element> Guarded<T> {
         }
     }
 
+    /// These elements among guards.
+    pub fn holding(elements: &[T]) -> Guarded<T> {
+        let mut guarded = Guarded::new(elements.len());
+        guarded.output().copy_from_slice(elements);
+        guarded
+    }
+
     pub fn length(&self) -> usize {
         self.memory.len() - 2 * Self::GUARD
+    }
+
+    pub fn elements(&self) -> &[T] {
+        &self.memory[Self::GUARD..][..self.length()]
     }
 
     pub fn output(&mut self) -> &mut [T] {

@@ -9,6 +9,21 @@ pub type Setting = [u8; 4];
 /// 0, 1, 2, in this order.
 pub type Layout = [u8; 8];
 
+/// Primaries, depth, the range of the given codes, and that of the codes made, in
+/// this order.
+pub type Conversion = [u8; 4];
+
+/// The two conversions of colors.
+#[derive(Clone, Copy, Debug, PartialEq)]
+pub enum Direction {
+    RgbToYcbcr,
+    YcbcrToRgb,
+}
+
+/// A conversion of codes into an output. The codes too lie among guards: they are
+/// lent, and must be left as they are.
+pub type Convert = fn(Direction, Conversion, &mut Guarded<u16>, &mut Guarded<u16>) -> i64;
+
 /// The float that dequantizing fills lies among guard words, so that a write
 /// beside it is seen.
 pub type Slot = [u32; 5];
@@ -29,6 +44,25 @@ pub struct Library {
     /// The output has the length of a layout.
     pub descriptor_read: fn(&[u8], &mut Guarded<u8>) -> i64,
     pub descriptor_write: fn(Layout, &mut Guarded<u8>) -> i64,
+    /// These two are told which of them is meant, so that one program can be both.
+    pub rgb_to_ycbcr: Convert,
+    pub ycbcr_to_rgb: Convert,
+}
+
+impl Library {
+    pub fn convert(
+        &self,
+        direction: Direction,
+        conversion: Conversion,
+        codes: &mut Guarded<u16>,
+        out: &mut Guarded<u16>,
+    ) -> i64 {
+        let convert = match direction {
+            Direction::RgbToYcbcr => self.rgb_to_ycbcr,
+            Direction::YcbcrToRgb => self.ycbcr_to_rgb,
+        };
+        convert(direction, conversion, codes, out)
+    }
 }
 
 /// The static library that this program is linked with.
@@ -41,6 +75,8 @@ pub const LINKED: Library = Library {
     encode_point,
     descriptor_read,
     descriptor_write,
+    rgb_to_ycbcr: convert,
+    ycbcr_to_rgb: convert,
 };
 
 extern "C" {
@@ -91,6 +127,28 @@ extern "C" {
     fn imurraqi_descriptor_read(bytes: *const u8, length: usize, layout: *mut u8) -> i64;
 
     fn imurraqi_descriptor_write(layout: *const u8, out: *mut u8, out_length: usize) -> i64;
+
+    fn imurraqi_rgb_to_ycbcr(
+        primaries: u8,
+        depth: u8,
+        range_in: u8,
+        range_out: u8,
+        codes: *const u16,
+        length: usize,
+        out: *mut u16,
+        out_length: usize,
+    ) -> i64;
+
+    fn imurraqi_ycbcr_to_rgb(
+        primaries: u8,
+        depth: u8,
+        range_in: u8,
+        range_out: u8,
+        codes: *const u16,
+        length: usize,
+        out: *mut u16,
+        out_length: usize,
+    ) -> i64;
 }
 
 fn dequantize([model, range, depth, channel]: Setting, code: u16, slot: &mut Slot) -> i64 {
@@ -170,4 +228,29 @@ fn descriptor_read(bytes: &[u8], layout: &mut Guarded<u8>) -> i64 {
 fn descriptor_write(layout: Layout, out: &mut Guarded<u8>) -> i64 {
     // SAFETY: as for `unpack_line`.
     unsafe { imurraqi_descriptor_write(layout.as_ptr(), out.pointer(), out.length()) }
+}
+
+fn convert(
+    direction: Direction,
+    [primaries, depth, range_in, range_out]: Conversion,
+    codes: &mut Guarded<u16>,
+    out: &mut Guarded<u16>,
+) -> i64 {
+    let convert = match direction {
+        Direction::RgbToYcbcr => imurraqi_rgb_to_ycbcr,
+        Direction::YcbcrToRgb => imurraqi_ycbcr_to_rgb,
+    };
+    // SAFETY: as for `unpack_line`; nothing else uses the codes either.
+    unsafe {
+        convert(
+            primaries,
+            depth,
+            range_in,
+            range_out,
+            codes.pointer(),
+            codes.length(),
+            out.pointer(),
+            out.length(),
+        )
+    }
 }

@@ -1,5 +1,6 @@
 //! A part of the tests.
 
+use crate::color;
 use crate::descriptor;
 use crate::library::Library;
 use crate::lines;
@@ -17,12 +18,19 @@ pub const fn part(name: &'static str, run: fn(&Library, &mut Tally) -> Flow) -> 
 
 /// Every part that tries a library, subject after subject.
 pub fn library_parts() -> impl Iterator<Item = &'static Part> {
-    [quantization::PARTS, lines::PARTS, descriptor::PARTS]
-        .into_iter()
-        .flatten()
+    [
+        quantization::PARTS,
+        lines::PARTS,
+        descriptor::PARTS,
+        color::PARTS,
+    ]
+    .into_iter()
+    .flatten()
 }
 
 /// Every part that needs no library.
 pub fn reference_parts() -> impl Iterator<Item = &'static Part> {
-    quantization::REFERENCE_PARTS.iter()
+    [quantization::REFERENCE_PARTS, color::REFERENCE_PARTS]
+        .into_iter()
+        .flatten()
 }

@@ -1,9 +1,10 @@
 //! A plain program, which knows nothing of the reference's numbers: values in
-//! float arithmetic, points bit by bit, descriptors byte by byte. Its pieces can
-//! be exchanged for wrong ones.
+//! float arithmetic, points bit by bit, descriptors byte by byte, colors over one
+//! denominator. Its pieces can be exchanged for wrong ones.
 
-use crate::library::Library;
+use crate::library::{Convert, Library};
 
+pub mod color;
 pub mod descriptor;
 pub mod layout;
 pub mod lines;
@@ -32,4 +33,10 @@ pub const PLAIN: Library = Library {
     descriptor_write: |layout, out| {
         descriptor::written(layout, out, descriptor::rising, descriptor::limits)
     },
+    rgb_to_ycbcr: CONVERT,
+    ycbcr_to_rgb: CONVERT,
+};
+
+const CONVERT: Convert = |direction, conversion, codes, out| {
+    color::converted(direction, conversion, codes, out, color::PIECES)
 };

@@ -1,6 +1,7 @@
 //! Programs with one mistake each, which the tests must catch, made from two
 //! right programs, which the tests must pass.
 
+use crate::color::{self as colors, expected_convert};
 use crate::descriptor::{self as descriptors, expected_read, expected_write};
 use crate::library::Library;
 use crate::lines::{
@@ -10,6 +11,12 @@ use crate::part::Part;
 use crate::plain::PLAIN;
 use crate::quantization::{self as values, expected_dequantize, expected_quantize};
 
+mod color;
+mod color_formulas;
+mod color_lines;
+mod color_reckoning;
+mod color_refusals;
+mod converts;
 mod descriptor;
 mod encode;
 mod pack;
@@ -29,6 +36,8 @@ pub const REFERENCE: Library = Library {
     encode_point: expected_encode_point,
     descriptor_read: expected_read,
     descriptor_write: expected_write,
+    rgb_to_ycbcr: expected_convert,
+    ycbcr_to_rgb: expected_convert,
 };
 
 pub const RIGHT: &[Library] = &[REFERENCE, PLAIN];
@@ -40,4 +49,9 @@ pub const WRONG: &[(&[Part], &[Wrong])] = &[
     (lines::PARTS, pack::WRONG),
     (lines::PARTS, encode::WRONG),
     (descriptors::PARTS, descriptor::WRONG),
+    (colors::PARTS, color::WRONG),
+    (colors::PARTS, color_formulas::WRONG),
+    (colors::PARTS, color_reckoning::WRONG),
+    (colors::PARTS, color_lines::WRONG),
+    (colors::PARTS, color_refusals::WRONG),
 ];

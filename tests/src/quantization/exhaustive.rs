@@ -1,12 +1,10 @@
 //! All 2^32 floats of a scale, not-a-numbers too.
 
-use std::sync::atomic::{AtomicU32, Ordering};
-use std::thread;
-
 use reference::fixed;
 use reference::quantization::Scale;
 use reference::refusal::Refusal;
 
+use crate::exhaustive::on_all_cores;
 use crate::library::{Library, Setting};
 use crate::tally::{Flow, Tally};
 
@@ -24,30 +22,9 @@ pub fn run(library: &Library, scale: Scale) -> Tally {
     let settings: Vec<Setting> = settings()
         .filter(|&setting| scale_of(setting) == scale)
         .collect();
-    let next_block = AtomicU32::new(0);
-    let work = || {
-        let mut tally = Tally::default();
-        loop {
-            let block = next_block.fetch_add(1, Ordering::Relaxed);
-            if block >= BLOCKS {
-                return tally;
-            }
-            if block > 0 && block.is_multiple_of(64) {
-                eprintln!("  {} %", 100 * block / BLOCKS);
-            }
-            // This tally never stops early.
-            let _ = go_through(library, &mut tally, scale, &settings, block);
-        }
-    };
-    let workers = thread::available_parallelism().map_or(1, |number| number.get());
-    let mut total = Tally::default();
-    thread::scope(|scope| {
-        let threads: Vec<_> = (0..workers).map(|_| scope.spawn(work)).collect();
-        for thread in threads {
-            total.add(thread.join().expect("a thread that ends by itself"));
-        }
-    });
-    total
+    on_all_cores(BLOCKS, |block, tally| {
+        go_through(library, tally, scale, &settings, block)
+    })
 }
 
 fn go_through(

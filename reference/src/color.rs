@@ -1,0 +1,145 @@
+//! Lines of R'G'B' codes to Y'CbCr codes and back: the paper's "Between R'G'B'
+//! and Y'CbCr", by the formulas of document 003.
+
+use crate::fraction::Fraction;
+use crate::lines::MOST_POINTS;
+use crate::quantization::{m, Scale};
+use crate::refusal::Refusal;
+
+const RGB: u8 = 1;
+const YCBCR: u8 = 2;
+
+/// Primaries, depth, the range of the given codes, and that of the codes made.
+pub type Numbers = [u8; 4];
+
+/// A row of the paper's table.
+#[derive(Clone, Copy, Debug)]
+pub struct Weights {
+    kr: Fraction,
+    kb: Fraction,
+}
+
+/// Fills `ycbcr` from R'G'B' codes, three a point. Answers the count of points.
+pub fn rgb_to_ycbcr(numbers: Numbers, rgb: &[u16], ycbcr: &mut [u16]) -> Result<usize, Refusal> {
+    convert(numbers, [RGB, YCBCR], Weights::ycbcr, rgb, ycbcr)
+}
+
+/// Fills `rgb` from Y'CbCr codes, three a point. Answers the count of points.
+pub fn ycbcr_to_rgb(numbers: Numbers, ycbcr: &[u16], rgb: &mut [u16]) -> Result<usize, Refusal> {
+    convert(numbers, [YCBCR, RGB], Weights::rgb, ycbcr, rgb)
+}
+
+/// A line by the formulas from one model's values to the other's. The whole
+/// output is made before any of it is stored, so nothing is written on a refusal.
+fn convert(
+    [primaries, depth, range_in, range_out]: Numbers,
+    [model_in, model_out]: [u8; 2],
+    formulas: fn(Weights, [Fraction; 3]) -> [Fraction; 3],
+    codes: &[u16],
+    out: &mut [u16],
+) -> Result<usize, Refusal> {
+    let weights = Weights::of(primaries)?;
+    let given = scales(model_in, range_in, depth)?;
+    let made = scales(model_out, range_out, depth)?;
+    let count = count(codes.len(), out.len())?;
+    if codes.iter().any(|&code| i128::from(code) > m(depth.into())) {
+        return Err(Refusal::CodeTooHigh);
+    }
+    let output: Vec<u16> = codes
+        .chunks(3)
+        .flat_map(|codes| {
+            let values = [0, 1, 2].map(|channel| given[channel].value(codes[channel].into()));
+            let values = formulas(weights, values);
+            [0, 1, 2].map(|channel| made[channel].clamp(made[channel].number(values[channel])))
+        })
+        .collect();
+    out.copy_from_slice(&output);
+    Ok(count)
+}
+
+/// The scales of channels 0, 1, 2.
+fn scales(model: u8, range: u8, depth: u8) -> Result<[Scale; 3], Refusal> {
+    let scale = |channel| Scale::new(model, range, depth, channel);
+    Ok([scale(0)?, scale(1)?, scale(2)?])
+}
+
+/// The count of points, for a line of so many codes into so many others.
+fn count(codes: usize, out: usize) -> Result<usize, Refusal> {
+    let count = codes / 3;
+    if codes.is_multiple_of(3) && count <= MOST_POINTS && out == codes {
+        Ok(count)
+    } else {
+        Err(Refusal::Length)
+    }
+}
+
+impl Weights {
+    pub fn of(primaries: u8) -> Result<Weights, Refusal> {
+        match primaries {
+            1 => Ok(Weights::ten_thousandths(2126, 722)),
+            2 | 3 => Ok(Weights::ten_thousandths(2990, 1140)),
+            4 => Ok(Weights::ten_thousandths(2627, 593)),
+            _ => Err(Refusal::Outside),
+        }
+    }
+
+    fn ten_thousandths(kr: i128, kb: i128) -> Weights {
+        Weights {
+            kr: Fraction::new(kr, 10_000),
+            kb: Fraction::new(kb, 10_000),
+        }
+    }
+
+    /// 1 - KR - KB
+    fn kg(self) -> Fraction {
+        1 - self.kr - self.kb
+    }
+
+    /// Y', Cb and Cr of R', G' and B'.
+    pub fn ycbcr(self, [r, g, b]: [Fraction; 3]) -> [Fraction; 3] {
+        // Y' = KR R' + (1 - KR - KB) G' + KB B'
+        let y = self.kr * r + self.kg() * g + self.kb * b;
+        // Cb = (B' - Y')/(2(1 - KB)), Cr = (R' - Y')/(2(1 - KR))
+        let cb = (b - y) / (2 * (1 - self.kb));
+        let cr = (r - y) / (2 * (1 - self.kr));
+        [y, cb, cr]
+    }
+
+    /// R', G' and B' of Y', Cb and Cr.
+    pub fn rgb(self, [y, cb, cr]: [Fraction; 3]) -> [Fraction; 3] {
+        // R' = Y' + 2(1 - KR) Cr, B' = Y' + 2(1 - KB) Cb
+        let r = y + 2 * (1 - self.kr) * cr;
+        let b = y + 2 * (1 - self.kb) * cb;
+        // Y' = KR R' + (1 - KR - KB) G' + KB B', solved for G'
+        let g = (y - (self.kr * r + self.kb * b)) / self.kg();
+        [r, g, b]
+    }
+}
+
+#[cfg(test)]
+mod tests {
+    use super::{rgb_to_ycbcr, ycbcr_to_rgb};
+
+    /// Full range, 8 bits, BT.709.
+    const FULL_8: [u8; 4] = [1, 8, 2, 2];
+
+    #[test]
+    fn marked_11() {
+        let mut ycbcr = [0; 3];
+        assert_eq!(rgb_to_ycbcr(FULL_8, &[255, 0, 0], &mut ycbcr), Ok(1));
+        assert_eq!(ycbcr, [54, 99, 255]);
+    }
+
+    #[test]
+    fn marked_12() {
+        let mut rgb = [0; 3];
+        assert_eq!(ycbcr_to_rgb(FULL_8, &[54, 99, 255], &mut rgb), Ok(1));
+        assert_eq!(rgb, [254, 0, 0]);
+    }
+
+    #[test]
+    fn empty_line() {
+        assert_eq!(rgb_to_ycbcr(FULL_8, &[], &mut []), Ok(0));
+        assert_eq!(ycbcr_to_rgb(FULL_8, &[], &mut []), Ok(0));
+    }
+}

@@ -1,0 +1,144 @@
+//! The paper's marked examples M11 and M12, and points worked out by hand. The
+//! library and the reference are both compared with them.
+
+use crate::guarded::{Guarded, Outcome};
+use crate::library::{Conversion, Direction, Library};
+use crate::tally::{Flow, Tally};
+use crate::wrong::REFERENCE;
+
+use Direction::{RgbToYcbcr, YcbcrToRgb};
+
+struct Example {
+    name: &'static str,
+    direction: Direction,
+    conversion: Conversion,
+    given: [u16; 3],
+    made: [u16; 3],
+}
+
+const fn example(
+    name: &'static str,
+    direction: Direction,
+    conversion: Conversion,
+    given: [u16; 3],
+    made: [u16; 3],
+) -> Example {
+    Example {
+        name,
+        direction,
+        conversion,
+        given,
+        made,
+    }
+}
+
+const MARKED: [Example; 12] = [
+    example("M11", RgbToYcbcr, [1, 8, 2, 2], [255, 0, 0], [54, 99, 255]),
+    example("M12", YcbcrToRgb, [1, 8, 2, 2], [54, 99, 255], [254, 0, 0]),
+    // Cb of blue and Cr of red are 1/2, of yellow and cyan -1/2: the ends of narrow
+    // range, and in full range ties, of which the upper one is clamped.
+    // 16 + 219 * 0.0593 = 28.9867; Cr = -0.0593/1.4746 and 128 + 224 Cr = 118.9920.
+    example(
+        "blue",
+        RgbToYcbcr,
+        [4, 8, 2, 1],
+        [0, 0, 255],
+        [29, 240, 119],
+    ),
+    // 4 (16 + 219 * 0.886) = 840.136; Cr = 0.114/1.402 and 4 (128 + 224 Cr) = 584.8559.
+    example(
+        "yellow",
+        RgbToYcbcr,
+        [2, 10, 2, 1],
+        [1023, 1023, 0],
+        [840, 64, 585],
+    ),
+    // 4095 * 0.299 = 1224.405; Cb = -0.299/1.772 and 2048 + 4095 Cb = 1357.0265.
+    example(
+        "red",
+        RgbToYcbcr,
+        [3, 12, 1, 2],
+        [235 << 4, 16 << 4, 16 << 4],
+        [1224, 1357, 4095],
+    ),
+    // 4095 * 0.701 = 2870.595; Cb = 0.299/1.772 and 2048 + 4095 Cb = 2738.9735.
+    example(
+        "cyan",
+        RgbToYcbcr,
+        [3, 12, 1, 2],
+        [16 << 4, 235 << 4, 235 << 4],
+        [2871, 2739, 1],
+    ),
+    // The ends of Cr at Y' = 1/2: R' = 1/2 + 0.7874, clamped;
+    // G' = 1/2 - 0.33480248/(2 * 0.7152) and 4 (16 + 219 G') = 296.9616.
+    example(
+        "Cr at its upper end",
+        YcbcrToRgb,
+        [1, 10, 1, 1],
+        [502, 512, 960],
+        [1023, 297, 502],
+    ),
+    example(
+        "Cr at its lower end",
+        YcbcrToRgb,
+        [1, 10, 1, 1],
+        [502, 512, 64],
+        [0, 707, 502],
+    ),
+    example(
+        "black to full",
+        YcbcrToRgb,
+        [4, 10, 1, 2],
+        [64, 512, 512],
+        [0; 3],
+    ),
+    example(
+        "white to full",
+        YcbcrToRgb,
+        [4, 10, 1, 2],
+        [940, 512, 512],
+        [1023; 3],
+    ),
+    example(
+        "blacker than black",
+        YcbcrToRgb,
+        [4, 10, 1, 2],
+        [0, 512, 512],
+        [0; 3],
+    ),
+    example(
+        "base of full differences",
+        YcbcrToRgb,
+        [2, 12, 2, 2],
+        [1000, 2048, 2048],
+        [1000; 3],
+    ),
+];
+
+pub fn marked(library: &Library, tally: &mut Tally) -> Flow {
+    for example in &MARKED {
+        for (program, library) in [("library", library), ("reference", &REFERENCE)] {
+            agrees(library, tally, program, example)?;
+        }
+    }
+    Flow::Continue(())
+}
+
+/// On a point, and on the same point twice.
+fn agrees(library: &Library, tally: &mut Tally, program: &str, example: &Example) -> Flow {
+    for points in [1, 2] {
+        let mut given = Guarded::holding(&example.given.repeat(points));
+        let outcome = Outcome::of(3 * points, |out| {
+            library.convert(example.direction, example.conversion, &mut given, out)
+        });
+        let output = outcome.output.elements();
+        let made = example.made.repeat(points);
+        tally.compare(outcome.answer == points as i64 && output == made, || {
+            format!(
+                "{}, {program}: answer {} and {output:?}, must be {points} and {made:?}",
+                example.name, outcome.answer
+            )
+        })?;
+    }
+    Flow::Continue(())
+}

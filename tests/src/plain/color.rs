@@ -1,0 +1,177 @@
+//! Colors in whole numbers: numerators over one denominator, and for G' the
+//! formula into which document 003 has put those for R' and B'.
+
+use reference::quantization::Scale;
+use reference::refusal::Refusal;
+
+use crate::guarded::Guarded;
+use crate::library::{Conversion, Direction};
+use crate::quantization::{refused, scale_of};
+
+use super::quantization::{line, Line};
+
+/// One, in ten-thousandths.
+pub const ONE: i128 = 10_000;
+
+/// A numerator over a denominator above zero.
+pub type Ratio = (i128, i128);
+
+/// Three values from three others, by KR, KG and KB in ten-thousandths.
+pub type Formulas = fn([i128; 3], [Ratio; 3]) -> [Ratio; 3];
+
+/// What makes a conversion. Each piece can be exchanged for a wrong one.
+#[derive(Clone, Copy)]
+pub struct Pieces {
+    pub weights: fn(u8) -> [i128; 3],
+    pub line: Line,
+    pub ycbcr: Formulas,
+    pub rgb: Formulas,
+    pub round: fn(Ratio) -> i128,
+}
+
+pub const PIECES: Pieces = Pieces {
+    weights,
+    line,
+    ycbcr,
+    rgb,
+    round: half_up,
+};
+
+/// Converts with the given pieces.
+pub fn converted(
+    direction: Direction,
+    conversion: Conversion,
+    codes: &mut Guarded<u16>,
+    out: &mut Guarded<u16>,
+    pieces: Pieces,
+) -> i64 {
+    pointwise(conversion, codes, out, |point| {
+        let values = values(direction, conversion, pieces.line, point);
+        let [primaries, ..] = conversion;
+        let weights = (pieces.weights)(primaries);
+        let values = match direction {
+            Direction::RgbToYcbcr => (pieces.ycbcr)(weights, values),
+            Direction::YcbcrToRgb => (pieces.rgb)(weights, values),
+        };
+        let made = made_scales(direction, conversion);
+        [0, 1, 2].map(|channel| {
+            let (step, base) = (pieces.line)(made[channel]);
+            (pieces.round)(on_line((step, base), values[channel]))
+        })
+    })
+}
+
+/// The whole numbers of each point are the rule's; refusals and clamping are right.
+pub fn pointwise(
+    conversion: Conversion,
+    codes: &mut Guarded<u16>,
+    out: &mut Guarded<u16>,
+    rule: impl Fn([u16; 3]) -> [i128; 3],
+) -> i64 {
+    let [_, depth, ..] = conversion;
+    if let Some(refusal) = refusal(conversion, codes.elements(), out.length()) {
+        return refused(refusal);
+    }
+    let (points, _) = codes.elements().as_chunks();
+    for (&point, made) in points.iter().zip(out.output().chunks_mut(3)) {
+        let numbers = rule(point).map(|number| number.clamp(0, (1 << depth) - 1) as u16);
+        made.copy_from_slice(&numbers);
+    }
+    points.len() as i64
+}
+
+fn refusal(conversion: Conversion, codes: &[u16], out_length: usize) -> Option<Refusal> {
+    let [primaries, depth, range_in, range_out] = conversion;
+    let inside = [1, 2, 3, 4].contains(&primaries)
+        && [8, 10, 12].contains(&depth)
+        && [1, 2].contains(&range_in)
+        && [1, 2].contains(&range_out);
+    let points = codes.len() / 3;
+    if !inside {
+        Some(Refusal::Outside)
+    } else if codes.len() != 3 * points || points > 4096 || out_length != codes.len() {
+        Some(Refusal::Length)
+    } else if codes.iter().any(|code| code >> depth != 0) {
+        Some(Refusal::CodeTooHigh)
+    } else {
+        None
+    }
+}
+
+/// KR, KG and KB of a row.
+pub fn weights(primaries: u8) -> [i128; 3] {
+    match primaries {
+        1 => [2126, 7152, 722],
+        4 => [2627, 6780, 593],
+        _ => [2990, 5870, 1140],
+    }
+}
+
+/// The values of the given codes.
+pub fn values(
+    direction: Direction,
+    conversion: Conversion,
+    line: Line,
+    point: [u16; 3],
+) -> [Ratio; 3] {
+    let given = given_scales(direction, conversion);
+    [0, 1, 2].map(|channel| {
+        let (step, base) = line(given[channel]);
+        (i128::from(point[channel]) - i128::from(base), step.into())
+    })
+}
+
+/// R', G' and B' have one denominator.
+pub fn ycbcr([kr, kg, kb]: [i128; 3], [r, g, b]: [Ratio; 3]) -> [Ratio; 3] {
+    let span = r.1;
+    let y = kr * r.0 + kg * g.0 + kb * b.0;
+    [
+        (y, ONE * span),
+        (ONE * b.0 - y, 2 * (ONE - kb) * span),
+        (ONE * r.0 - y, 2 * (ONE - kr) * span),
+    ]
+}
+
+/// Cb and Cr have one denominator.
+pub fn rgb([kr, kg, kb]: [i128; 3], [y, cb, cr]: [Ratio; 3]) -> [Ratio; 3] {
+    // All three over the product of the two spans.
+    let spans = y.1 * cb.1;
+    let [y, cb, cr] = [y.0 * cb.1, cb.0 * y.1, cr.0 * y.1];
+    [
+        (ONE * y + 2 * (ONE - kr) * cr, ONE * spans),
+        (
+            ONE * kg * y - 2 * (kr * (ONE - kr) * cr + kb * (ONE - kb) * cb),
+            ONE * kg * spans,
+        ),
+        (ONE * y + 2 * (ONE - kb) * cb, ONE * spans),
+    ]
+}
+
+/// The number on a line, before rounding.
+pub fn on_line((step, base): (i32, i32), (p, q): Ratio) -> Ratio {
+    (p * i128::from(step) + q * i128::from(base), q)
+}
+
+pub fn half_up((p, q): Ratio) -> i128 {
+    (2 * p + q).div_euclid(2 * q)
+}
+
+/// The scales of the given channels.
+pub fn given_scales(direction: Direction, conversion: Conversion) -> [Scale; 3] {
+    let [_, depth, range_in, _] = conversion;
+    let model = match direction {
+        Direction::RgbToYcbcr => 1,
+        Direction::YcbcrToRgb => 2,
+    };
+    [0, 1, 2].map(|channel| scale_of([model, range_in, depth, channel]))
+}
+
+/// The scales of the channels that are made.
+pub fn made_scales(direction: Direction, conversion: Conversion) -> [Scale; 3] {
+    let [_, depth, _, range_out] = conversion;
+    let model = match direction {
+        Direction::RgbToYcbcr => 2,
+        Direction::YcbcrToRgb => 1,
+    };
+    [0, 1, 2].map(|channel| scale_of([model, range_out, depth, channel]))
+}
