@@ -13,9 +13,6 @@ mod to_rgb;
 mod to_ycbcr;
 mod weights;
 
-pub use linear::Linear;
-pub use linear::Rows;
-pub use to_rgb::Spread;
 pub use weights::Weights;
 
 // Whether the paper has this row of weights, this depth and both ranges.

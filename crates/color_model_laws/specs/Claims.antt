@@ -1,4 +1,4 @@
--- What is claimed of the conversion: document 01, "Between R'G'B' and Y'CbCr", of the definitions that the entries' contracts cite; and the marked examples. proofs/Claims.antt proves each. Assumes nothing.
+-- Claims about the equations of document 01, "Between R'G'B' and Y'CbCr", as the entries' contracts cite them, and about the marked examples. proofs/Claims.antt proves each. Assumes nothing.
 use Prim.Native.Nat.{ℕ, _+_, _<_}
 use mathlib.Core.Bool.{true}
 use mathlib.Core.Path.{_≡_}
