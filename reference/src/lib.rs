@@ -4,6 +4,7 @@
 //! plainness to speed: every number is an exact fraction, every float is its
 //! 32 bits, and no float arithmetic is done anywhere.
 
+pub mod card;
 pub mod color;
 pub mod descriptor;
 pub mod fixed;
@@ -13,3 +14,4 @@ pub mod layout;
 pub mod lines;
 pub mod quantization;
 pub mod refusal;
+pub mod stack;

@@ -3,11 +3,13 @@
 use std::env;
 use std::process::ExitCode;
 
+use reference::card::{self, Facts};
 use reference::color;
 use reference::descriptor;
 use reference::lines;
 use reference::quantization::{self, Kind, Scale};
 use reference::refusal::Refusal;
+use reference::stack;
 
 const USAGE: &str = "\
 usage: reference dequantize MODEL RANGE DEPTH CHANNEL CODE
@@ -19,6 +21,11 @@ usage: reference dequantize MODEL RANGE DEPTH CHANNEL CODE
        reference rgb CONVERSION CODE...
        reference write LAYOUT
        reference read BYTES
+       reference write-card EDITION LAYOUT WIDTH HEIGHT ITEM ACCESS
+       reference read-card EDITION BYTES
+       reference rewrite-card EDITION BYTES
+       reference find EDITION ITEM BYTES
+       reference list BYTES
 MODEL       1 RGB, 2 Y'CbCr
 RANGE       1 narrow, 2 full
 DEPTH       8, 10 or 12
@@ -28,7 +35,10 @@ LAYOUT      model, primaries, range, depth, bytes a point, three bit offsets, as
             1,1,2,8,3,0,8,16
 CONVERSION  primaries, depth, range of the given codes, range of the codes made, as
             in 1,8,2,2
-BYTES       hexadecimal digits, two a byte: packed points, or a descriptor to read";
+EDITION     1 or 2
+ACCESS      0 closed, 1 community, 2 open
+BYTES       hexadecimal digits, two a byte: packed points, or a descriptor, a card or
+            a stack to read";
 
 fn main() -> ExitCode {
     let arguments: Vec<String> = env::args().skip(1).collect();
@@ -87,6 +97,31 @@ fn answer(arguments: &[&str]) -> Option<Result<String, Refusal>> {
             let layout = descriptor::read(&bytes(descriptor)?);
             Some(layout.map(|numbers| separated(&numbers, ",")))
         }
+        ["write-card", edition, layout, width, height, item, access] => {
+            let facts = Facts {
+                layout: numbers(layout)?,
+                width: width.parse().ok()?,
+                height: height.parse().ok()?,
+                item: item.parse().ok()?,
+                access: access.parse().ok()?,
+            };
+            let edition = edition.parse().ok()?;
+            Some(made_card(|out| card::write(edition, facts, out)))
+        }
+        ["read-card", edition, card] => {
+            let facts = card::read(&bytes(card)?, edition.parse().ok()?);
+            Some(facts.map(shown))
+        }
+        ["rewrite-card", edition, card] => {
+            let card = bytes(card)?;
+            let edition = edition.parse().ok()?;
+            Some(made_card(|out| card::rewrite(&card, edition, out)))
+        }
+        ["find", edition, item, stack] => {
+            let index = stack::find(&bytes(stack)?, edition.parse().ok()?, item.parse().ok()?);
+            Some(index.map(|index| index.to_string()))
+        }
+        ["list", stack] => Some(Ok(stack::list(&bytes(stack)?).trim_end().to_string())),
         _ => None,
     }
 }
@@ -127,6 +162,26 @@ fn write(layout: [u8; 8]) -> Result<String, Refusal> {
     let mut bytes = [0; descriptor::SIZE];
     descriptor::write(layout, &mut bytes)?;
     Ok(hexadecimal(&bytes))
+}
+
+/// The bytes of a card that is written to room of its length.
+fn made_card(make: impl FnOnce(&mut [u8]) -> Result<(), Refusal>) -> Result<String, Refusal> {
+    let mut card = [0; card::SIZE];
+    make(&mut card)?;
+    Ok(hexadecimal(&card))
+}
+
+/// The facts in the order in which they are given to be written.
+fn shown(facts: Facts) -> String {
+    let layout = separated(&facts.layout, ",");
+    let Facts {
+        width,
+        height,
+        item,
+        access,
+        ..
+    } = facts;
+    format!("{layout} {width} {height} {item} {access}")
 }
 
 fn bytes_a_point([_, _, _, _, bytes, ..]: [u8; 8]) -> usize {

@@ -3,7 +3,8 @@
 /// A refusal, by its row in the paper's table.
 #[derive(Clone, Copy, Debug, PartialEq, Eq)]
 pub enum Refusal {
-    /// A descriptor that is not 76 bytes.
+    /// A descriptor that is not 76 bytes, a card that is not 32, a stack not of whole
+    /// cards or over 1,024 cards.
     Size = 1,
     /// Bytes 0 to 11 of a descriptor.
     Header = 2,
@@ -15,14 +16,23 @@ pub enum Refusal {
     Sample = 5,
     /// Lower and upper numbers that state no one range.
     SampleRange = 6,
+    /// An edition asked that is not 1 or 2.
+    Edition = 7,
+    /// A card's byte 0 above the edition asked.
+    TooNew = 8,
     /// A card field, layout, range, depth, channel or weights row outside the paper.
     Outside = 9,
+    /// An access above 2, written at 2 and read at 2.
+    Access = 10,
+    /// Edition 1 asked to write 12 bits, or an access other than closed.
+    EditionLacks = 11,
     NotANumber = 12,
     /// A line not of whole points or over 4,096 points, or an output that is not
     /// exactly as long as needed.
     Length = 13,
     /// A code above 2^n - 1.
     CodeTooHigh = 14,
+    NoItem = 15,
 }
 
 impl Refusal {

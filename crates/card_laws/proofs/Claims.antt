@@ -1,0 +1,74 @@
+-- The claims of specs/Claims.antt. Assumes nothing.
+use mathlib.Core.Path.{_≡_, refl, sym, ap, _∙_}
+use mathlib.Core.Bool.{Bool, true, false, not, cond, _&&_}
+use mathlib.Core.List.{List}
+use Prim.Native.Nat.{ℕ}
+use native.Mathlib.Omega.{arith}
+use borrow.Author.Tests.{eq-eqb, not-false}
+use lib.Dec.{eqb}
+use lib.ListN.{length}
+use Rattle.lists.proofs.Tests.{pass}
+use Rattle.card_table.specs.Edition.{editionKnown, hasAccess}
+use Rattle.card_table.specs.Facts.{factsValid}
+use Rattle.card_table.specs.Table.{cardSize, cardBytes}
+use Rattle.card_reader.specs.Reading.{readCard}
+use Rattle.card_reader.proofs.Shown.{accepted}
+use Rattle.card_writer.specs.declared.Writing.{Writing}
+use Rattle.card_writer.specs.declared.Writing.the-variants.{Done, Refused}
+use Rattle.card_writer.specs.Writing.{unwritable, validAt, writeAnswer}
+use Rattle.card_writer.proofs.Answers.{changed}
+use Rattle.card_laws.specs.Claims.{ShowsWhatWasWritten, WritesValidFacts, WritesNoOther, ReadsWhatWasWritten, ShowsValidFacts, NeverMoreOpen, ClosedToEdition1, ClosedFromEdition1, RewritesInOrder, RewritesWhatWasShown, NeverOpens}
+use Rattle.card_laws.proofs.Valid.{at, write-valid}
+use Rattle.card_laws.proofs.Written.{read-card}
+use Rattle.card_laws.proofs.Any.{valid-shown, never-more, closed-to, closed-from}
+use Rattle.card_laws.proofs.Rewritten.{rewrite-order, result-shows, never-opens}
+
+-- a row that did not apply
+row : (t : Bool) (n : ℕ) (rest : Writing) → cond t (Refused n) rest ≡ Done → (t ≡ false) × (rest ≡ Done)
+row true n rest h = let z : _≡_ {A = ℕ} 0 1 = cc in absurd (omega arith)
+row false n rest h = (refl, h)
+
+pub writes-no-other : WritesNoOther
+unfolding writeAnswer validAt
+writes-no-other e f bytes h =
+    let r₃ : Writing = cond (not (eqb bytes cardSize)) (Refused 13) Done in
+    let r₂ : Writing = cond (unwritable e f) (Refused 11) r₃ in
+    let r₁ : Writing = cond (not (factsValid f)) (Refused 9) r₂ in
+    let h₁ = row (not (editionKnown e)) 7 r₁ h in
+    let h₂ = row (not (factsValid f)) 9 r₂ (h₁ .1) in
+    let h₃ = row (unwritable e f) 11 r₃ (h₂ .1) in
+    λ i. not-false (editionKnown e) (h₁ .0) i && not-false (factsValid f) (h₂ .0) i && not (h₃ .0 i)
+
+pub shows-what-was-written : ShowsWhatWasWritten
+shows-what-was-written e e′ f v = read-card e e′ f (at e f v)
+
+pub writes-valid-facts : WritesValidFacts
+writes-valid-facts e f bytes v = write-valid e f bytes (at e f v)
+
+pub reads-what-was-written : ReadsWhatWasWritten
+reads-what-was-written e e′ f out d =
+    ap (λ (c : List ℕ). readCard c e′) (sym (changed e f out (cardBytes e f) (sym d) refl))
+    ∙ read-card e e′ f (at e f (writes-no-other e f (length out) d))
+
+pub shows-valid-facts : ShowsValidFacts
+shows-valid-facts b e f h = valid-shown b e f (accepted b e f h)
+
+pub never-more-open : NeverMoreOpen
+never-more-open b e f h = never-more b e f (accepted b e f h)
+
+pub closed-to-edition-1 : ClosedToEdition1
+closed-to-edition-1 b f h = closed-to b 1 f (accepted b 1 f h) refl
+
+pub closed-from-edition-1 : ClosedFromEdition1
+closed-from-edition-1 b e f h w = closed-from b e f (accepted b e f h) (ap hasAccess w)
+
+pub rewrites-in-order : RewritesInOrder
+rewrites-in-order = rewrite-order
+
+pub rewrites-what-was-shown : RewritesWhatWasShown
+rewrites-what-was-shown b e e′ f out h n =
+    let v = at e f (valid-shown b e f (accepted b e f h)) in
+    result-shows b e f out h (write-valid e f (length out) v ∙ pass _ (ap not (eq-eqb (length out) cardSize n)) refl) e′
+
+pub rewrites-never-open : NeverOpens
+rewrites-never-open = never-opens

@@ -1,0 +1,85 @@
+-- What is claimed of cards, of the definitions that the contracts of `card_reader::read`, `card_writer::write` and `card::rewrite` cite. proofs/Claims.antt proves each. Assumes nothing.
+use Prim.Native.Nat.{ℕ, _≤_}
+use mathlib.Core.Bool.{true, not, cond}
+use mathlib.Core.Path.{_≡_}
+use mathlib.Core.Logic.{_⊎_}
+use mathlib.Core.List.{List}
+use lib.Dec.{eqb, ltb}
+use lib.ListN.{length, getD}
+use Rattle.layout.specs.Refusal.{unknownEdition, laterEdition, wrongLineOrOutput}
+use Rattle.card_table.specs.declared.facts.Facts.{Facts}
+use Rattle.card_table.specs.Edition.{editionKnown, hasAccess, leastEdition}
+use Rattle.card_table.specs.Facts.{closed, withAccess}
+use Rattle.card_table.specs.Table.{cardSize, cardBytes}
+use Rattle.card_reader.specs.declared.Reading.{Reading}
+use Rattle.card_reader.specs.declared.Reading.the-variants.{Shown, Refused as NotShown}
+use Rattle.card_reader.specs.Reading.{readCard}
+use Rattle.card_writer.specs.declared.Writing.{Writing}
+use Rattle.card_writer.specs.declared.Writing.the-variants.{Done, Refused}
+use Rattle.card_writer.specs.Writing.{validAt, writeAnswer, writeOutput}
+use Rattle.card.specs.Rewriting.{rewriteAnswer, rewriteOutput}
+
+-- ---- a card that was written
+
+-- what facts are to an edition: 7 where there is no such edition, 8 where the layout needs a later one, and else the facts, closed to an edition that has no access
+unfoldable pub shows : Facts → ℕ → Reading
+shows f e =
+    cond (not (editionKnown e)) (NotShown unknownEdition)
+    (cond (ltb e (leastEdition (f .layout))) (NotShown laterEdition)
+    (Shown (withAccess f (cond (hasAccess e) (f .access) closed))))
+
+-- valid facts, written at any edition, are shown so at every edition
+abbrev pub ShowsWhatWasWritten : Type 0
+ShowsWhatWasWritten = (e e′ : ℕ) (f : Facts) → validAt e f ≡ true → readCard (cardBytes e f) e′ ≡ shows f e′
+
+-- and they are written, into exactly as many bytes as a card has
+abbrev pub WritesValidFacts : Type 0
+WritesValidFacts = (e : ℕ) (f : Facts) (bytes : ℕ) → validAt e f ≡ true → writeAnswer e f bytes ≡ cond (not (eqb bytes cardSize)) (Refused wrongLineOrOutput) Done
+
+-- no others are
+abbrev pub WritesNoOther : Type 0
+WritesNoOther = (e : ℕ) (f : Facts) (bytes : ℕ) → writeAnswer e f bytes ≡ Done → validAt e f ≡ true
+
+-- so what an accepted writing left shows the facts
+abbrev pub ReadsWhatWasWritten : Type 0
+ReadsWhatWasWritten = (e e′ : ℕ) (f : Facts) (out : List ℕ) → writeAnswer e f (length out) ≡ Done → readCard (writeOutput e f out) e′ ≡ shows f e′
+
+-- ---- any bytes
+
+-- whatever is shown is valid at the edition
+abbrev pub ShowsValidFacts : Type 0
+ShowsValidFacts = (b : List ℕ) (e : ℕ) (f : Facts) → readCard b e ≡ Shown f → validAt e f ≡ true
+
+-- and never more open than byte 24 says
+abbrev pub NeverMoreOpen : Type 0
+NeverMoreOpen = (b : List ℕ) (e : ℕ) (f : Facts) → readCard b e ≡ Shown f → f .access ≤ getD b 24 0
+
+-- it is closed where the reader is at 1
+abbrev pub ClosedToEdition1 : Type 0
+ClosedToEdition1 = (b : List ℕ) (f : Facts) → readCard b 1 ≡ Shown f → f .access ≡ closed
+
+-- and where the writer was
+abbrev pub ClosedFromEdition1 : Type 0
+ClosedFromEdition1 = (b : List ℕ) (e : ℕ) (f : Facts) → readCard b e ≡ Shown f → getD b 1 0 ≡ 1 → f .access ≡ closed
+
+-- ---- a rewrite, of any bytes
+
+-- the reading's number, then 13
+abbrev pub thenLength : Reading → ℕ → Writing
+thenLength (NotShown k) bytes = Refused k
+thenLength (Shown f) bytes = cond (not (eqb bytes cardSize)) (Refused wrongLineOrOutput) Done
+
+abbrev pub RewritesInOrder : Type 0
+RewritesInOrder = (b : List ℕ) (e bytes : ℕ) → rewriteAnswer b e bytes ≡ thenLength (readCard b e) bytes
+
+-- what was shown at the rewrite's edition is what its result is to every edition
+abbrev pub RewritesWhatWasShown : Type 0
+RewritesWhatWasShown =
+    (b : List ℕ) (e e′ : ℕ) (f : Facts) (out : List ℕ) → readCard b e ≡ Shown f → length out ≡ cardSize
+    → readCard (rewriteOutput b e out) e′ ≡ shows f e′
+
+-- a rewrite never opens: what any edition shows of its result is closed, or was shown at edition 2 before
+abbrev pub NeverOpens : Type 0
+NeverOpens =
+    (b : List ℕ) (e e′ : ℕ) (g : Facts) (out : List ℕ) → rewriteAnswer b e (length out) ≡ Done
+    → readCard (rewriteOutput b e out) e′ ≡ Shown g → (g .access ≡ closed) ⊎ (readCard b 2 ≡ Shown g)

@@ -1,0 +1,52 @@
+-- What an accepted reading says of the bytes: no row applied, and the facts are those that the bytes hold. Assumes nothing.
+use mathlib.Core.Path.{_≡_, refl}
+use mathlib.Core.Bool.{Bool, true, false, not, cond}
+use mathlib.Core.List.{List}
+use Prim.Native.Nat.{ℕ}
+use native.Mathlib.Omega.{arith}
+use borrow.Author.Tests.{not-false}
+use lib.Dec.{eqb, ltb}
+use lib.ListN.{length, getD}
+use Rattle.card_table.specs.declared.facts.Facts.{Facts}
+use Rattle.card_table.specs.Edition.{editionKnown}
+use Rattle.card_table.specs.Table.{cardSize}
+use Rattle.card_reader.specs.declared.Reading.{Reading}
+use Rattle.card_reader.specs.declared.Reading.the-variants.{Shown, Refused}
+use Rattle.card_reader.specs.Reading.{writerOf, factsIn, frontRight, accessUnknown, endWrong, readCard}
+
+-- a row that did not apply
+pub passed : (t : Bool) (n : ℕ) (rest : Reading) (f : Facts) → cond t (Refused n) rest ≡ Shown f → (t ≡ false) × (rest ≡ Shown f)
+passed true n rest f h = let z : _≡_ {A = ℕ} 0 1 = cc in absurd (omega arith)
+passed false n rest f h = (refl, h)
+
+pub same-facts : (g f : Facts) → Shown g ≡ Shown f → g ≡ f
+same-facts g f h = cc
+
+pub record Accepted (b : List ℕ) (e : ℕ) (f : Facts) : Type 0 where
+  pub edition : editionKnown e ≡ true
+  pub readable : ltb e (getD b 0 0) ≡ false
+  pub front : frontRight b (factsIn b e) ≡ true
+  pub is : factsIn b e ≡ f
+
+pub accepted : (b : List ℕ) (e : ℕ) (f : Facts) → readCard b e ≡ Shown f → Accepted b e f
+unfolding readCard
+accepted b e f h =
+    let r₇ : Reading = cond (endWrong b e) (Refused 9) (Shown (factsIn b e)) in
+    let r₆ : Reading = cond (accessUnknown (writerOf b) (getD b 24 0) e) (Refused 10) r₇ in
+    let r₅ : Reading = cond (not (frontRight b (factsIn b e))) (Refused 9) r₆ in
+    let r₄ : Reading = cond (ltb e (getD b 0 0)) (Refused 8) r₅ in
+    let r₃ : Reading = cond (eqb (getD b 0 0) 0) (Refused 9) r₄ in
+    let r₂ : Reading = cond (not (editionKnown e)) (Refused 7) r₃ in
+    let h₂ = passed (not (eqb (length b) cardSize)) 1 r₂ f h in
+    let h₃ = passed (not (editionKnown e)) 7 r₃ f (h₂ .1) in
+    let h₄ = passed (eqb (getD b 0 0) 0) 9 r₄ f (h₃ .1) in
+    let h₅ = passed (ltb e (getD b 0 0)) 8 r₅ f (h₄ .1) in
+    let h₆ = passed (not (frontRight b (factsIn b e))) 9 r₆ f (h₅ .1) in
+    let h₇ = passed (accessUnknown (writerOf b) (getD b 24 0) e) 10 r₇ f (h₆ .1) in
+    let h₈ = passed (endWrong b e) 9 (Shown (factsIn b e)) f (h₇ .1) in
+    record {
+      edition = not-false (editionKnown e) (h₃ .0);
+      readable = h₅ .0;
+      front = not-false (frontRight b (factsIn b e)) (h₆ .0);
+      is = same-facts (factsIn b e) f (h₈ .1);
+    }

@@ -1,0 +1,46 @@
+// A card read: 32 bytes that hold the facts of an item (document 01, "Card").
+ghost use mathlib.Core.Path.{_≡_};
+ghost use Rattle.card_reader.specs.Reading.{readCard};
+use card_table::Card;
+use card_table::Facts;
+use card_table::edition;
+use layout::refusal;
+
+mod access;
+mod front;
+mod number;
+
+// The facts that a card shows, or the refusal's number.
+pub enum Reading {
+    Shown(Facts),
+    Refused(u8),
+}
+
+// What a card shows at an edition. Refused: 1, 7, 9 where byte 0 is 0, 8, 9 for bytes 1 to 23, 10, 9 for bytes 24 to 31.
+pub fn read(bytes: &[u8], edition: u8) -> Reading
+    ensures answer { λ r. ⌜ r ≡ readCard (now (bytes .entry)) edition ⌝ }
+{
+    if bytes.len() != Card::SIZE {
+        return Reading::Refused(refusal::WRONG_LENGTH);
+    }
+    if !edition::known(edition) {
+        return Reading::Refused(refusal::UNKNOWN_EDITION);
+    }
+    if bytes[0] == 0 {
+        return Reading::Refused(refusal::OUTSIDE);
+    }
+    if edition < bytes[0] {
+        return Reading::Refused(refusal::LATER_EDITION);
+    }
+    let facts = front::facts_in(bytes, edition);
+    if !front::front_right(bytes, facts) {
+        return Reading::Refused(refusal::OUTSIDE);
+    }
+    if access::unknown(bytes[1], bytes[24], edition) {
+        return Reading::Refused(refusal::UNKNOWN_ACCESS);
+    }
+    if access::end_wrong(bytes, edition) {
+        return Reading::Refused(refusal::OUTSIDE);
+    }
+    Reading::Shown(facts)
+}

@@ -1,0 +1,21 @@
+-- Document 01, "Card": its editions. Assumes nothing.
+use Prim.Native.Nat.{ℕ}
+use mathlib.Core.Bool.{Bool, cond, _&&_}
+use lib.Dec.{eqb, leb}
+use Rattle.layout.specs.declared.Layout.{Layout}
+
+-- the newest edition
+abbrev pub newest : ℕ
+newest = 2
+
+-- the editions there are: 1 to the newest
+abbrev pub editionKnown : ℕ → Bool
+editionKnown e = leb 1 e && leb e newest
+
+-- an edition from 2 on has bytes 24 to 31; to an earlier one every card is closed
+abbrev pub hasAccess : ℕ → Bool
+hasAccess e = leb 2 e
+
+-- byte 0: the least edition that can read a card of this layout, 2 if n = 12, else 1
+unfoldable pub leastEdition : Layout → ℕ
+leastEdition l = cond (eqb (l .depth) 12) 2 1

@@ -1,0 +1,37 @@
+-- Document 01, "Card" and "The book of one card": the facts that a card holds, a layout, a size, an item and an access. Assumes nothing.
+use Prim.Native.Nat.{ℕ, _^_}
+use mathlib.Core.Bool.{Bool, _&&_}
+use lib.Dec.{leb, ltb}
+use Rattle.layout.specs.Layout.{validLayout}
+use Rattle.card_table.specs.declared.facts.Facts.{Facts}
+
+-- width and height: 1 to 4,096
+abbrev pub sideKnown : ℕ → Bool
+sideKnown side = leb 1 side && leb side 4096
+
+-- access: 0 closed, 1 community, 2 open
+abbrev pub closed : ℕ
+closed = 0
+
+abbrev pub community : ℕ
+community = 1
+
+abbrev pub opened : ℕ
+opened = 2
+
+abbrev pub accessKnown : ℕ → Bool
+accessKnown access = leb access opened
+
+-- the paper has these facts; an item is not zero, and a u64
+unfoldable pub factsValid : Facts → Bool
+factsValid f =
+    validLayout (f .layout)
+    && sideKnown (f .width)
+    && sideKnown (f .height)
+    && leb 1 (f .item)
+    && ltb (f .item) (2 ^ 64)
+    && accessKnown (f .access)
+
+-- the same facts with another access
+abbrev pub withAccess : Facts → ℕ → Facts
+withAccess f access = record { layout = f .layout; width = f .width; height = f .height; item = f .item; access = access }

@@ -1,0 +1,29 @@
+// Editions of the card, and what each has.
+ghost use mathlib.Core.Path.{_≡_};
+ghost use Rattle.card_table.specs.Edition.{editionKnown, hasAccess, leastEdition};
+use layout::Layout;
+
+// The newest edition. specs/Edition.antt has the same.
+const NEWEST: u8 = 2;
+
+// Whether there is such an edition.
+pub fn known(edition: u8) -> bool
+    ensures { λ r. ⌜ r ≡ editionKnown edition ⌝ }
+{
+    (1 <= edition) & (edition <= NEWEST)
+}
+
+// Whether an edition has bytes 24 to 31: access.
+pub fn has_access(edition: u8) -> bool
+    ensures { λ r. ⌜ r ≡ hasAccess edition ⌝ }
+{
+    2 <= edition
+}
+
+// The least edition that can read a card of this layout: byte 0.
+pub fn least(layout: Layout) -> u8
+    ensures { λ r. ⌜ r ≡ leastEdition layout ⌝ }
+{
+    let depth = layout.depth;
+    if depth == 12 { 2 } else { 1 }
+}

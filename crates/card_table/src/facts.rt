@@ -1,0 +1,38 @@
+// The facts that a card holds.
+ghost use mathlib.Core.Path.{_≡_};
+ghost use Rattle.card_table.specs.Facts.{sideKnown, factsValid};
+use crate::access;
+use crate::card::Card;
+use layout::Layout;
+
+// Any numbers make facts; `valid` says whether the paper has them.
+pub struct Facts {
+    pub layout: Layout,
+    pub width: u16,
+    pub height: u16,
+    pub item: u64,
+    pub access: u8,
+}
+
+// Whether a picture may be so wide, or so high.
+fn side_known(side: u16) -> bool
+    ensures { λ r. ⌜ r ≡ sideKnown side ⌝ }
+{
+    (1 <= side) & (side <= Card::LARGEST_WIDTH)
+}
+
+impl Facts {
+    // Whether the paper has these facts. (An item is below 2^64 by its type.)
+    pub fn valid(self) -> bool
+        ensures { λ r. ⌜ r ≡ factsValid self ⌝ }
+    {
+        let layout = self.layout;
+        let item = self.item;
+        let access = self.access;
+        layout.valid()
+            & side_known(self.width)
+            & side_known(self.height)
+            & (1 <= item)
+            & (access <= access::OPEN)
+    }
+}

@@ -1,0 +1,39 @@
+-- Document 01, "Card" and "Numbers on the refusal slip": what writing a card answers and leaves in the output. Assumes nothing.
+use Prim.Native.Nat.{ℕ}
+use mathlib.Core.Bool.{Bool, not, cond, _&&_, _||_}
+use mathlib.Core.List.{List}
+use lib.Dec.{eqb, ltb}
+use lib.ListN.{length}
+use Rattle.layout.specs.Refusal.{unknownEdition, outside, unwritable as unwritableRow, wrongLineOrOutput}
+use Rattle.card_table.specs.declared.facts.Facts.{Facts}
+use Rattle.card_writer.specs.declared.Writing.{Writing}
+use Rattle.card_writer.specs.declared.Writing.the-variants.{Done, Refused}
+use Rattle.card_table.specs.Edition.{editionKnown, hasAccess, leastEdition}
+use Rattle.card_table.specs.Facts.{closed, factsValid}
+use Rattle.card_table.specs.Table.{cardSize, cardBytes}
+
+-- the edition has no place for the layout or the access (in this paper: edition 1, and 12 bits or access other than closed)
+unfoldable pub unwritable : ℕ → Facts → Bool
+unwritable e f = ltb e (leastEdition (f .layout)) || not (hasAccess e) && not (eqb (f .access) closed)
+
+-- facts are valid at an edition if no row of the writer's order but 13 applies
+unfoldable pub validAt : ℕ → Facts → Bool
+validAt e f = editionKnown e && factsValid f && not (unwritable e f)
+
+-- writing into so many bytes: 7, 9, 11, 13
+unfoldable pub writeAnswer : ℕ → Facts → ℕ → Writing
+writeAnswer e f bytes =
+    cond (not (editionKnown e)) (Refused unknownEdition)
+    (cond (not (factsValid f)) (Refused outside)
+    (cond (unwritable e f) (Refused unwritableRow)
+    (cond (not (eqb bytes cardSize)) (Refused wrongLineOrOutput)
+    Done)))
+
+-- an output afterwards: what is written, or what was there before where it is refused
+abbrev pub kept : Writing → List ℕ → List ℕ → List ℕ
+kept Done before after = after
+kept (Refused k) before after = before
+
+-- the output after writing
+unfoldable pub writeOutput : ℕ → Facts → List ℕ → List ℕ
+writeOutput e f before = kept (writeAnswer e f (length before)) before (cardBytes e f)

@@ -1,0 +1,201 @@
+//! Cards: the paper's "Card, 32 bytes".
+
+use crate::layout::Layout;
+use crate::refusal::Refusal;
+
+pub const SIZE: usize = 32;
+
+const GREATEST_SIDE: u16 = 4096;
+
+/// The access numbers of edition 2 are those up to open.
+pub const CLOSED: u8 = 0;
+pub const COMMUNITY: u8 = 1;
+pub const OPEN: u8 = 2;
+
+/// The first of the bytes that edition 1 does not know.
+const ACCESS: usize = 24;
+
+/// What a card tells. A reading gives facts inside the paper; a writing is given
+/// any numbers.
+#[derive(Clone, Copy, Debug, PartialEq, Eq)]
+pub struct Facts {
+    /// The eight numbers of a layout.
+    pub layout: [u8; 8],
+    pub width: u16,
+    pub height: u16,
+    pub item: u64,
+    pub access: u8,
+}
+
+/// The facts of a card as an edition reads them.
+pub fn read(bytes: &[u8], edition: u8) -> Result<Facts, Refusal> {
+    let Ok(card) = <[u8; SIZE]>::try_from(bytes) else {
+        return Err(Refusal::Size);
+    };
+    known(edition)?;
+    let [least, written, ..] = card;
+    if least == 0 {
+        return Err(Refusal::Outside);
+    }
+    if least > edition {
+        return Err(Refusal::TooNew);
+    }
+    let silent = Facts {
+        layout: [2, 3, 4, 5, 6, 8, 9, 10].map(|place| card[place]),
+        width: number(&card[12..14]) as u16,
+        height: number(&card[14..16]) as u16,
+        item: number(&card[16..24]),
+        access: CLOSED,
+    };
+    let layout = silent.inside()?;
+    if least != least_edition(layout) || written < least || card[7] != 0 || card[11] != 0 {
+        return Err(Refusal::Outside);
+    }
+    let access = access(&card[ACCESS..], written, edition)?;
+    Ok(Facts { access, ..silent })
+}
+
+/// Fills `out` with the card of these facts, written at an edition.
+pub fn write(edition: u8, facts: Facts, out: &mut [u8]) -> Result<(), Refusal> {
+    known(edition)?;
+    let layout = facts.inside()?;
+    if edition < least_edition(layout) || edition == 1 && facts.access != CLOSED {
+        return Err(Refusal::EditionLacks);
+    }
+    if out.len() != SIZE {
+        return Err(Refusal::Length);
+    }
+    out.copy_from_slice(&bytes(edition, facts, layout));
+    Ok(())
+}
+
+/// A reading at an edition followed by a writing at it.
+pub fn rewrite(card: &[u8], edition: u8, out: &mut [u8]) -> Result<(), Refusal> {
+    write(edition, read(card, edition)?, out)
+}
+
+/// Refuses an edition that is not 1 or 2.
+pub fn known(edition: u8) -> Result<(), Refusal> {
+    match edition {
+        1 | 2 => Ok(()),
+        _ => Err(Refusal::Edition),
+    }
+}
+
+/// The least edition that can read a card of this layout.
+fn least_edition(layout: Layout) -> u8 {
+    if layout.depth == 12 {
+        2
+    } else {
+        1
+    }
+}
+
+/// The access that bytes 24 to 31 show, for a card written at one edition and
+/// read at another.
+fn access(bytes: &[u8], written: u8, edition: u8) -> Result<u8, Refusal> {
+    let access = bytes[0];
+    match (written, edition) {
+        (1, _) if bytes != [0; 8] => Err(Refusal::Outside),
+        (1, _) | (_, 1) => Ok(CLOSED),
+        (2, _) if access > OPEN => Err(Refusal::Access),
+        (2, _) if bytes[1..] != [0; 7] => Err(Refusal::Outside),
+        (2, _) => Ok(access),
+        // Written later than it is read.
+        _ if access > OPEN => Ok(CLOSED),
+        _ => Ok(access),
+    }
+}
+
+fn bytes(edition: u8, facts: Facts, layout: Layout) -> [u8; SIZE] {
+    let mut card = [0; SIZE];
+    card[0] = least_edition(layout);
+    card[1] = edition;
+    card[2] = layout.model;
+    card[3] = layout.primaries;
+    card[4] = layout.range;
+    card[5] = layout.depth;
+    card[6] = layout.bytes_a_point;
+    card[8..11].copy_from_slice(&layout.offsets);
+    card[12..14].copy_from_slice(&facts.width.to_le_bytes());
+    card[14..16].copy_from_slice(&facts.height.to_le_bytes());
+    card[16..24].copy_from_slice(&facts.item.to_le_bytes());
+    card[ACCESS] = facts.access;
+    card
+}
+
+impl Facts {
+    /// The layout, if all the facts are inside the paper.
+    fn inside(self) -> Result<Layout, Refusal> {
+        let layout = Layout::new(self.layout)?;
+        let inside = [self.width, self.height]
+            .iter()
+            .all(|side| (1..=GREATEST_SIDE).contains(side))
+            && self.item != 0
+            && self.access <= OPEN;
+        if inside {
+            Ok(layout)
+        } else {
+            Err(Refusal::Outside)
+        }
+    }
+}
+
+/// The little-endian number of these bytes.
+fn number(bytes: &[u8]) -> u64 {
+    bytes
+        .iter()
+        .rev()
+        .fold(0, |number, &byte| number << 8 | u64::from(byte))
+}
+
+#[cfg(test)]
+mod tests {
+    use super::{read, rewrite, write, Facts, CLOSED, OPEN, SIZE};
+    use crate::refusal::Refusal;
+
+    /// Item 7, open, 720 by 576.
+    const FACTS: Facts = Facts {
+        layout: [2, 2, 1, 10, 4, 0, 10, 20],
+        width: 720,
+        height: 576,
+        item: 7,
+        access: OPEN,
+    };
+
+    const CARD: [u8; SIZE] = [
+        1, 2, 2, 2, 1, 10, 4, 0, 0, 10, 20, 0, 0xd0, 2, 0x40, 2, 7, 0, 0, 0, 0, 0, 0, 0, 2, 0, 0,
+        0, 0, 0, 0, 0,
+    ];
+
+    #[test]
+    fn written_and_read() {
+        let mut card = [0xff; SIZE];
+        assert_eq!(write(2, FACTS, &mut card), Ok(()));
+        assert_eq!(card, CARD);
+        assert_eq!(read(&CARD, 2), Ok(FACTS));
+    }
+
+    #[test]
+    fn closed_at_edition_1() {
+        let closed = Facts {
+            access: CLOSED,
+            ..FACTS
+        };
+        assert_eq!(read(&CARD, 1), Ok(closed));
+        let mut card = [0xff; SIZE];
+        assert_eq!(rewrite(&CARD, 1, &mut card), Ok(()));
+        assert_eq!([card[0], card[1], card[24]], [1, 1, CLOSED]);
+        assert_eq!(read(&card, 2), Ok(closed));
+    }
+
+    #[test]
+    fn unknown_access() {
+        let mut card = CARD;
+        card[24] = 3;
+        assert_eq!(read(&card, 2), Err(Refusal::Access));
+        // Written at 3, it is closed at 2.
+        card[1] = 3;
+        assert_eq!(read(&card, 2).map(|facts| facts.access), Ok(CLOSED));
+    }
+}

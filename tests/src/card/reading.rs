@@ -1,0 +1,114 @@
+//! Readings and rewritings that are refused: by length, and where several
+//! refusals compete.
+
+use crate::library::Library;
+use crate::tally::{Flow, Tally};
+
+use super::cards::{self, DEPTHS};
+use super::{compare_read, compare_read_at_all, compare_rewrite, Card, ACCESS, LEAST, ROOMS, SIZE};
+
+const EDITIONS: [u8; 5] = [1, 2, 0, 3, 255];
+
+/// Changes of bytes 2 to 23, with none first. Together they reach every field.
+const FIELDS: [&[(usize, u8)]; 18] = [
+    &[],
+    &[(2, 0)],
+    &[(2, 3)],
+    &[(3, 0)],
+    &[(3, 5)],
+    &[(4, 3)],
+    &[(5, 9)],
+    &[(5, 16)],
+    &[(6, 2)],
+    &[(6, 9)],
+    &[(7, 1)],
+    // Past the point's end; the same place for two fields.
+    &[(8, 255)],
+    &[(8, 0), (9, 0)],
+    &[(11, 1)],
+    &[(12, 0), (13, 0)],
+    // 4,097.
+    &[(12, 1), (13, 16)],
+    &[(14, 1), (15, 16)],
+    &[
+        (16, 0),
+        (17, 0),
+        (18, 0),
+        (19, 0),
+        (20, 0),
+        (21, 0),
+        (22, 0),
+        (23, 0),
+    ],
+];
+
+/// Every length up to two cards and more, with bytes that are right, and with bytes
+/// that other refusals speak of.
+pub fn lengths(library: &Library, tally: &mut Tally) -> Flow {
+    for card in cards::chosen() {
+        for least in [card[LEAST], 0, 3] {
+            let mut cards = [card; 3].concat();
+            cards[LEAST] = least;
+            for length in 0..=cards.len() {
+                compare_read_at_all(library, tally, &cards[..length])?;
+                for edition in EDITIONS {
+                    compare_rewrite(library, tally, &cards[..length], edition, SIZE)?;
+                }
+            }
+        }
+    }
+    // A length cut to 8 or 16 bits would take these for a card's.
+    for length in [256 + SIZE, 65_536 + SIZE] {
+        let card = cards::card(cards::facts(8));
+        let cards: Vec<u8> = card.into_iter().cycle().take(length).collect();
+        compare_read_at_all(library, tally, &cards)?;
+        compare_rewrite(library, tally, &cards, 2, SIZE)?;
+        compare_rewrite(library, tally, &card, 2, length)?;
+    }
+    Flow::Continue(())
+}
+
+/// All combinations of lengths, editions, bytes 0 and 1, a field, an access and a
+/// byte after it, each right or wrong; rewritings into rooms that take turns.
+pub fn competing(library: &Library, tally: &mut Tally) -> Flow {
+    let mut rooms = ROOMS.into_iter().cycle();
+    for card in DEPTHS.into_iter().flat_map(stated) {
+        for length in [SIZE, SIZE - 1, SIZE + 1] {
+            let mut card = card.to_vec();
+            card.resize(length, 0);
+            for edition in EDITIONS {
+                compare_read(library, tally, &card, edition)?;
+                let room = rooms.next().expect("rooms without end");
+                compare_rewrite(library, tally, &card, edition, room)?;
+            }
+        }
+    }
+    Flow::Continue(())
+}
+
+/// The cards of a depth that have bytes 0 and 1, a field, an access and a byte after
+/// it right or wrong.
+fn stated(depth: u8) -> Vec<Card> {
+    let mut stated = Vec::new();
+    for least in [1, 2, 0, 3, 255] {
+        for written in [2, 1, 0, 3, 255] {
+            for field in FIELDS {
+                for access in [0, 2, 3, 255] {
+                    for after in [None, Some(ACCESS + 1), Some(SIZE - 1)] {
+                        let mut card = cards::written_at(written, cards::facts(depth));
+                        card[LEAST] = least;
+                        card[ACCESS] = access;
+                        for &(place, byte) in field {
+                            card[place] = byte;
+                        }
+                        if let Some(place) = after {
+                            card[place] = 1;
+                        }
+                        stated.push(card);
+                    }
+                }
+            }
+        }
+    }
+    stated
+}

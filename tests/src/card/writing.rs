@@ -1,0 +1,105 @@
+//! Cards written: from facts outside the paper, to room that is not a card's, and
+//! of every layout.
+
+use reference::card::Facts;
+
+use crate::layouts;
+use crate::library::Library;
+use crate::tally::{Flow, Tally};
+
+use super::cards::{self, DEPTHS};
+use super::{
+    compare_read, compare_rewrite, compare_write, unknown_editions, KNOWN_EDITIONS, ROOMS, SIZE,
+};
+
+/// Every edition and room with every kind of fact, right or wrong, in all
+/// combinations of a layout, a size, an item and an access.
+pub fn competing(library: &Library, tally: &mut Tally) -> Flow {
+    let combinations: Vec<Facts> = DEPTHS.into_iter().flat_map(combinations).collect();
+    for &facts in &combinations {
+        for room in ROOMS {
+            for edition in [0, 1, 2, 3, 255] {
+                compare_write(library, tally, edition, facts, room)?;
+            }
+        }
+    }
+    // The other editions, with rooms in turn.
+    for (&facts, room) in combinations.iter().zip(ROOMS.into_iter().cycle()) {
+        for edition in unknown_editions() {
+            compare_write(library, tally, edition, facts, room)?;
+        }
+    }
+    // Every length of room up to two cards and more.
+    for depth in DEPTHS {
+        for room in 0..=3 * SIZE {
+            for edition in KNOWN_EDITIONS {
+                compare_write(library, tally, edition, cards::facts(depth), room)?;
+            }
+        }
+    }
+    // Lengths that would be a card's if they were cut to 8 or 16 bits.
+    for room in [256 + SIZE, 65_536 + SIZE] {
+        compare_write(library, tally, 2, cards::facts(8), room)?;
+    }
+    Flow::Continue(())
+}
+
+/// Every number of a layout takes all its values, at both editions.
+pub fn layouts_outside(library: &Library, tally: &mut Tally) -> Flow {
+    for (turn, layout) in layouts::one_of_each_size().enumerate() {
+        for changed in layouts::changed(layout) {
+            for access in 0..=2 {
+                let facts = Facts {
+                    access,
+                    ..cards::facts_in_turn(changed, turn)
+                };
+                for edition in KNOWN_EDITIONS {
+                    compare_write(library, tally, edition, facts, SIZE)?;
+                }
+            }
+        }
+    }
+    Flow::Continue(())
+}
+
+/// Cards of every layout, written, read and rewritten. Editions, sizes, items and
+/// access take turns.
+pub fn every_layout(library: &Library, tally: &mut Tally) -> Flow {
+    for (turn, layout) in layouts::every().enumerate() {
+        let facts = Facts {
+            access: (turn % 3) as u8,
+            ..cards::facts_in_turn(layout, turn)
+        };
+        let edition = KNOWN_EDITIONS[turn / 3 % 2];
+        compare_write(library, tally, edition, facts, SIZE)?;
+        let card = cards::card(facts);
+        compare_read(library, tally, &card, edition)?;
+        compare_rewrite(library, tally, &card, edition, SIZE)?;
+    }
+    Flow::Continue(())
+}
+
+fn combinations(depth: u8) -> Vec<Facts> {
+    let layout = cards::layout(depth);
+    let mut unknown_model = layout;
+    unknown_model[0] = 3;
+    let mut overlapping = layout;
+    overlapping[6] = overlapping[5];
+    let mut combinations = Vec::new();
+    for layout in [layout, unknown_model, overlapping] {
+        for [width, height] in [[720, 576], [0, 576], [720, 0], [4097, 4096], [4096, 4097]] {
+            for item in [1, 0] {
+                for access in [0, 1, 2, 3, 255] {
+                    combinations.push(Facts {
+                        layout,
+                        width,
+                        height,
+                        item,
+                        access,
+                    });
+                }
+            }
+        }
+    }
+    combinations
+}

@@ -1,0 +1,130 @@
+//! The functions of the C interface on cards and stacks.
+
+use reference::card::Facts;
+
+use crate::guarded::Guarded;
+
+use super::Layout;
+
+/// What the functions on cards share: lent bytes lie among guards and must be left
+/// as they are.
+pub type CardRead = fn(&mut Guarded<u8>, u8, &mut Told) -> i64;
+pub type CardWrite = fn(u8, Facts, &mut Guarded<u8>) -> i64;
+pub type CardRewrite = fn(&mut Guarded<u8>, u8, &mut Guarded<u8>) -> i64;
+pub type StackFind = fn(&mut Guarded<u8>, u8, u64) -> i64;
+
+/// The memory that a reading fills: the numbers of a layout; width, height, item
+/// and access.
+#[derive(Clone, PartialEq)]
+pub struct Told {
+    pub layout: Guarded<u8>,
+    pub facts: Guarded<u64>,
+}
+
+impl Told {
+    pub fn new() -> Told {
+        Told {
+            layout: Guarded::new(size_of::<Layout>()),
+            facts: Guarded::new(4),
+        }
+    }
+
+    pub fn store(&mut self, facts: Facts) {
+        self.layout.output().copy_from_slice(&facts.layout);
+        self.facts.output().copy_from_slice(&[
+            facts.width.into(),
+            facts.height.into(),
+            facts.item,
+            facts.access.into(),
+        ]);
+    }
+}
+
+/// An answer that no function gives, for a layout that is changed where it is lent.
+const LAYOUT_CHANGED: i64 = i64::MIN;
+
+extern "C" {
+    fn imurraqi_card_read(
+        card: *const u8,
+        length: usize,
+        edition: u8,
+        layout: *mut u8,
+        facts: *mut u64,
+    ) -> i64;
+
+    fn imurraqi_card_write(
+        edition: u8,
+        layout: *const u8,
+        width: u16,
+        height: u16,
+        item: u64,
+        access: u8,
+        out: *mut u8,
+        out_length: usize,
+    ) -> i64;
+
+    fn imurraqi_card_rewrite(
+        card: *const u8,
+        length: usize,
+        edition: u8,
+        out: *mut u8,
+        out_length: usize,
+    ) -> i64;
+
+    fn imurraqi_stack_find(stack: *const u8, length: usize, edition: u8, item: u64) -> i64;
+}
+
+pub fn card_read(card: &mut Guarded<u8>, edition: u8, told: &mut Told) -> i64 {
+    // SAFETY: the pointers are to as many elements as the length says, eight for
+    // the layout and four for the facts, and nothing else uses them.
+    unsafe {
+        imurraqi_card_read(
+            card.pointer(),
+            card.length(),
+            edition,
+            told.layout.pointer(),
+            told.facts.pointer(),
+        )
+    }
+}
+
+pub fn card_write(edition: u8, facts: Facts, out: &mut Guarded<u8>) -> i64 {
+    let lent = Guarded::holding(&facts.layout);
+    let mut layout = lent.clone();
+    // SAFETY: as for `card_read`.
+    let answer = unsafe {
+        imurraqi_card_write(
+            edition,
+            layout.pointer(),
+            facts.width,
+            facts.height,
+            facts.item,
+            facts.access,
+            out.pointer(),
+            out.length(),
+        )
+    };
+    if layout == lent {
+        answer
+    } else {
+        LAYOUT_CHANGED
+    }
+}
+
+pub fn card_rewrite(card: &mut Guarded<u8>, edition: u8, out: &mut Guarded<u8>) -> i64 {
+    // SAFETY: as for `card_read`.
+    unsafe {
+        imurraqi_card_rewrite(
+            card.pointer(),
+            card.length(),
+            edition,
+            out.pointer(),
+            out.length(),
+        )
+    }
+}
+
+pub fn stack_find(stack: &mut Guarded<u8>, edition: u8, item: u64) -> i64 {
+    // SAFETY: as for `card_read`.
+    unsafe { imurraqi_stack_find(stack.pointer(), stack.length(), edition, item) }
+}

@@ -1,0 +1,96 @@
+//! The cards and stacks that are tried.
+
+use reference::card::Facts;
+
+use crate::card::cards;
+use crate::card::{Card, ACCESS, LEAST, SIZE, WRITTEN};
+use crate::random::Random;
+
+use super::MOST_CARDS;
+
+/// A card of an item that both editions read. Sizes and access take turns.
+pub fn card_of(item: u64, turn: usize) -> Card {
+    let depth = [8, 10][turn % 2];
+    cards::card(Facts {
+        item,
+        access: (turn % 3) as u8,
+        ..cards::facts_in_turn(cards::layout(depth), turn)
+    })
+}
+
+/// A card of an item that edition 1 refuses and edition 2 reads.
+pub fn card_of_12_bits(item: u64) -> Card {
+    cards::card(Facts {
+        item,
+        ..cards::facts(12)
+    })
+}
+
+/// Cards of an item that edition 2 refuses, by every refusal it has; the last two,
+/// for their bytes from 24 on, are read by edition 1.
+pub fn refused_cards_of(item: u64) -> Vec<Card> {
+    let changes: [&[(usize, u8)]; 10] = [
+        &[(LEAST, 0)],
+        &[(LEAST, 3), (WRITTEN, 3)],
+        &[(LEAST, 2)],
+        &[(WRITTEN, 0)],
+        &[(2, 3)],
+        &[(7, 1)],
+        &[(14, 0), (15, 0)],
+        &[(WRITTEN, 1), (ACCESS, 1)],
+        &[(ACCESS, 3)],
+        &[(SIZE - 1, 1)],
+    ];
+    changes
+        .into_iter()
+        .map(|changes| {
+            let mut card = card_of(item, 0);
+            for &(place, byte) in changes {
+                card[place] = byte;
+            }
+            card
+        })
+        .collect()
+}
+
+/// So many cards of the items from 1 on.
+pub fn counted(cards: usize) -> Vec<u8> {
+    (0..cards)
+        .flat_map(|index| card_of(index as u64 + 1, index))
+        .collect()
+}
+
+/// A stack with few items, so that many are there twice, and with cards of 12 bits,
+/// refused cards and cards of later editions among them.
+pub fn random(random: &mut Random, most_items: usize) -> Vec<u8> {
+    let cards = match random.below(8) {
+        0 => random.below(MOST_CARDS + 1),
+        _ => random.below(20),
+    };
+    (0..cards)
+        .flat_map(|turn| random_card(random, most_items, turn))
+        .collect()
+}
+
+fn random_card(random: &mut Random, most_items: usize, turn: usize) -> Card {
+    let item = 1 + random.below(most_items) as u64;
+    match random.below(8) {
+        0 => card_of_12_bits(item),
+        1 | 2 => {
+            let refused = refused_cards_of(item);
+            refused[random.below(refused.len())]
+        }
+        3 => {
+            let mut later = card_of(item, turn);
+            later[WRITTEN] = 3 + random.below(253) as u8;
+            later[ACCESS..].fill_with(|| random.below(5) as u8);
+            later
+        }
+        4 => {
+            let mut changed = card_of(item, turn);
+            changed[random.below(SIZE)] = random.next() as u8;
+            changed
+        }
+        _ => card_of(item, turn),
+    }
+}

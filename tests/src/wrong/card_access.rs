@@ -1,0 +1,224 @@
+//! Mistakes in the access that a card shows, and in the bytes that are looked at
+//! for it.
+
+use crate::card::{expected_read, ACCESS, WRITTEN};
+use crate::library::card::Told;
+use crate::plain::card::{read, shown, Row, READING};
+
+use super::card_reads::{
+    changed, exchanged, reads, rows, ACCESS_ABOVE_2, KNOWN_EDITION, LAST_BYTES, LENGTH,
+};
+use super::Wrong;
+
+pub const WRONG: &[Wrong] = &[
+    // What is shown.
+    reads("byte 24 shown at edition 1", |card, edition, told| {
+        read(card, edition, told, &READING, |asked| {
+            match asked.card[ACCESS] {
+                access @ 0..=2 => access,
+                _ => 0,
+            }
+        })
+    }),
+    reads(
+        "an unknown access number shown as open",
+        |card, edition, told| {
+            read(card, edition, told, &READING, |asked| match asked.edition {
+                1 => 0,
+                _ => asked.card[ACCESS].min(2),
+            })
+        },
+    ),
+    reads(
+        "an unknown access number shown as it stands",
+        |card, edition, told| {
+            read(card, edition, told, &READING, |asked| match asked.edition {
+                1 => 0,
+                _ => asked.card[ACCESS],
+            })
+        },
+    ),
+    reads(
+        "an access number's two lowest bits shown",
+        |card, edition, told| {
+            read(card, edition, told, &READING, |asked| match asked.edition {
+                1 => 0,
+                _ => asked.card[ACCESS] & 3,
+            })
+        },
+    ),
+    reads("later cards all closed", |card, edition, told| {
+        read(card, edition, told, &READING, |asked| {
+            if asked.card[WRITTEN] > 2 {
+                0
+            } else {
+                shown(asked)
+            }
+        })
+    }),
+    reads("every card closed", |card, edition, told| {
+        read(card, edition, told, &READING, |_| 0)
+    }),
+    reads("every card open", |card, edition, told| {
+        read(card, edition, told, &READING, |_| 2)
+    }),
+    reads("closed and open exchanged", |card, edition, told| {
+        read(card, edition, told, &READING, |asked| 2 - shown(asked))
+    }),
+    reads("open shown as community", |card, edition, told| {
+        read(card, edition, told, &READING, |asked| shown(asked).min(1))
+    }),
+    // Refusal 10.
+    reads("10 for a card written at 1", |card, edition, told| {
+        let row: Row = (10, |asked| {
+            asked.edition == 2 && asked.card[WRITTEN] <= 2 && asked.card[ACCESS] > 2
+        });
+        read(card, edition, told, &exchanged(ACCESS_ABOVE_2, row), shown)
+    }),
+    reads("10 for a card written at 3", |card, edition, told| {
+        let row: Row = (10, |asked| {
+            asked.edition == 2 && matches!(asked.card[WRITTEN], 2 | 3) && asked.card[ACCESS] > 2
+        });
+        read(card, edition, told, &exchanged(ACCESS_ABOVE_2, row), shown)
+    }),
+    reads("10 for later cards", |card, edition, told| {
+        let row: Row = (10, |asked| {
+            asked.edition == 2 && asked.card[WRITTEN] >= 2 && asked.card[ACCESS] > 2
+        });
+        read(card, edition, told, &exchanged(ACCESS_ABOVE_2, row), shown)
+    }),
+    reads("10 at edition 1", |card, edition, told| {
+        let row: Row = (10, |asked| {
+            asked.card[WRITTEN] == 2 && asked.card[ACCESS] > 2
+        });
+        read(card, edition, told, &exchanged(ACCESS_ABOVE_2, row), shown)
+    }),
+    reads("10 for open", |card, edition, told| {
+        let row: Row = (10, |asked| {
+            asked.edition == 2 && asked.card[WRITTEN] == 2 && asked.card[ACCESS] > 1
+        });
+        read(card, edition, told, &exchanged(ACCESS_ABOVE_2, row), shown)
+    }),
+    reads("10 for numbers above 3 only", |card, edition, told| {
+        let row: Row = (10, |asked| {
+            asked.edition == 2 && asked.card[WRITTEN] == 2 && asked.card[ACCESS] > 3
+        });
+        read(card, edition, told, &exchanged(ACCESS_ABOVE_2, row), shown)
+    }),
+    reads("9 for 10", |card, edition, told| {
+        match expected_read(card, edition, told) {
+            -10 => -9,
+            answer => answer,
+        }
+    }),
+    reads("an access above 2 closed at 2", |card, edition, told| {
+        let rows = rows([0, 1, 2, 3, 4, 6]);
+        read(card, edition, told, &rows, shown)
+    }),
+    // Bytes 24 to 31.
+    reads(
+        "the last bytes of a card from 1 not looked at",
+        |card, edition, told| {
+            changed(card, edition, told, |card| {
+                if card[WRITTEN] == 1 {
+                    card[ACCESS..].fill(0);
+                }
+            })
+        },
+    ),
+    reads(
+        "the access of a card from 1 shown",
+        |card, edition, told| {
+            let row: Row = (9, |asked| {
+                asked.card[WRITTEN] <= 2
+                    && (asked.edition == 2 || asked.card[WRITTEN] == 1)
+                    && asked.card[ACCESS + 1..] != [0; 7]
+            });
+            read(card, edition, told, &exchanged(LAST_BYTES, row), shown)
+        },
+    ),
+    reads(
+        "bytes 25 to 31 of a card from 1 not looked at",
+        |card, edition, told| {
+            changed(card, edition, told, |card| {
+                if card[WRITTEN] == 1 {
+                    card[ACCESS + 1..].fill(0);
+                }
+            })
+        },
+    ),
+    reads(
+        "the last bytes of a card from 1 not looked at at 1",
+        |card, edition, told| {
+            changed(card, edition, told, |card| {
+                if card[WRITTEN] == 1 && edition == 1 {
+                    card[ACCESS..].fill(0);
+                }
+            })
+        },
+    ),
+    reads(
+        "the last bytes of a card from 1 not looked at at 2",
+        |card, edition, told| {
+            changed(card, edition, told, |card| {
+                if card[WRITTEN] == 1 && edition == 2 {
+                    card[ACCESS..].fill(0);
+                }
+            })
+        },
+    ),
+    reads(
+        "bytes 25 to 31 of a card from 2 not looked at",
+        |card, edition, told| {
+            changed(card, edition, told, |card| {
+                if card[WRITTEN] == 2 {
+                    card[ACCESS + 1..].fill(0);
+                }
+            })
+        },
+    ),
+    reads("byte 31 not looked at", |card, edition, told| {
+        changed(card, edition, told, |card| card[31] = 0)
+    }),
+    reads("byte 28 not looked at", |card, edition, told| {
+        changed(card, edition, told, |card| card[28] = 0)
+    }),
+    reads(
+        "bytes 25 to 31 of a card from 2 looked at at 1",
+        |card, edition, told| {
+            let row: Row = (9, |asked| match asked.card[WRITTEN] {
+                1 => asked.card[ACCESS..] != [0; 8],
+                2 => asked.card[ACCESS + 1..] != [0; 7],
+                _ => false,
+            });
+            read(card, edition, told, &exchanged(LAST_BYTES, row), shown)
+        },
+    ),
+    reads(
+        "bytes 25 to 31 of later cards looked at at 2",
+        |card, edition, told| {
+            let row: Row = (9, |asked| match (asked.card[WRITTEN], asked.edition) {
+                (1, _) => asked.card[ACCESS..] != [0; 8],
+                (_, 1) => false,
+                _ => asked.card[ACCESS + 1..] != [0; 7],
+            });
+            read(card, edition, told, &exchanged(LAST_BYTES, row), shown)
+        },
+    ),
+    reads(
+        "byte 31 of later cards looked at at 1",
+        |card, edition, told| {
+            match expected_read(card, edition, told) {
+                0 if edition == 1 && card.elements()[WRITTEN] > 2 && card.elements()[31] != 0 => {
+                    // Nothing is stored by a refusal.
+                    *told = Told::new();
+                    -9
+                }
+                answer => answer,
+            }
+        },
+    ),
+    reads("no rows but 1 and 7", |card, edition, told| {
+        read(card, edition, told, &rows([LENGTH, KNOWN_EDITION]), shown)
+    }),
+];
