@@ -1,5 +1,6 @@
 pub mod Printed
 pub mod Claims
+pub mod Finding
 mod Valid
 mod Written
 mod Any
