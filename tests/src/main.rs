@@ -4,10 +4,11 @@ use std::env;
 use std::process::ExitCode;
 use std::time::Instant;
 
-use crate::library::LINKED;
+use crate::library::{program, LINKED};
 use crate::part::Part;
 use crate::tally::Tally;
 
+mod card;
 mod color;
 mod descriptor;
 mod exhaustive;
@@ -15,11 +16,13 @@ mod guarded;
 mod layouts;
 mod library;
 mod lines;
+mod list;
 mod part;
 mod plain;
 mod quantization;
 mod random;
 mod self_check;
+mod stack;
 mod tally;
 mod wrong;
 
@@ -59,6 +62,13 @@ fn ordinary() -> bool {
     let mut total = Tally::default();
     for part in part::library_parts().chain(part::reference_parts()) {
         total.add(run(part));
+    }
+    if program::is_there() {
+        for part in part::program_parts() {
+            total.add(run(part));
+        }
+    } else {
+        println!("list: skipped, there is no {}", program::PROGRAM);
     }
     let checked = self_check::run();
     println!(

@@ -1,10 +1,13 @@
 //! A part of the tests.
 
+use crate::card;
 use crate::color;
 use crate::descriptor;
 use crate::library::Library;
 use crate::lines;
+use crate::list;
 use crate::quantization;
+use crate::stack;
 use crate::tally::{Flow, Tally};
 
 pub struct Part {
@@ -23,9 +26,16 @@ pub fn library_parts() -> impl Iterator<Item = &'static Part> {
         lines::PARTS,
         descriptor::PARTS,
         color::PARTS,
+        card::PARTS,
+        stack::PARTS,
     ]
     .into_iter()
     .flatten()
+}
+
+/// Every part that tries the program that lists a stack.
+pub fn program_parts() -> impl Iterator<Item = &'static Part> {
+    list::PARTS.iter()
 }
 
 /// Every part that needs no library.
