@@ -77,7 +77,8 @@ int64_t imurraqi_ycbcr_to_rgb(uint8_t primaries, uint8_t depth,
                               size_t out_len);
 
 /* What a card shows at an edition, 1 or 2. Answers 0. Refused: 1, 7, 9 where
- * byte 0 is 0, 8, 9 for bytes 1 to 23, 10, 9 for bytes 24 to 31.
+ * byte 0 is 0, 8, 9 for bytes 1 to 23 and a byte 0 that is not the layout's, 10,
+ * 9 for bytes 24 to 31.
  * layout: the eight bytes of its layout. facts: width, height, item, access
  * (0 closed, 1 community, 2 open). */
 int64_t imurraqi_card_read(const uint8_t *card, size_t len, uint8_t edition,

@@ -4,7 +4,7 @@ use std::env;
 use std::process::ExitCode;
 use std::time::Instant;
 
-use crate::library::{program, LINKED};
+use crate::library::LINKED;
 use crate::part::Part;
 use crate::tally::Tally;
 
@@ -62,13 +62,6 @@ fn ordinary() -> bool {
     let mut total = Tally::default();
     for part in part::library_parts().chain(part::reference_parts()) {
         total.add(run(part));
-    }
-    if program::is_there() {
-        for part in part::program_parts() {
-            total.add(run(part));
-        }
-    } else {
-        println!("list: skipped, there is no {}", program::PROGRAM);
     }
     let checked = self_check::run();
     println!(

@@ -19,7 +19,7 @@ pub const fn part(name: &'static str, run: fn(&Library, &mut Tally) -> Flow) -> 
     Part { name, run }
 }
 
-/// Every part that tries a library, subject after subject.
+/// Every part that tries the library or the program, subject after subject.
 pub fn library_parts() -> impl Iterator<Item = &'static Part> {
     [
         quantization::PARTS,
@@ -28,14 +28,10 @@ pub fn library_parts() -> impl Iterator<Item = &'static Part> {
         color::PARTS,
         card::PARTS,
         stack::PARTS,
+        list::PARTS,
     ]
     .into_iter()
     .flatten()
-}
-
-/// Every part that tries the program that lists a stack.
-pub fn program_parts() -> impl Iterator<Item = &'static Part> {
-    list::PARTS.iter()
 }
 
 /// Every part that needs no library.

@@ -5,7 +5,7 @@ use std::sync::atomic::{AtomicUsize, Ordering};
 use std::thread;
 
 use crate::library::Library;
-use crate::part::{library_parts, program_parts, Part};
+use crate::part::{library_parts, Part};
 use crate::tally::Tally;
 use crate::wrong::{RIGHT, WRONG};
 
@@ -38,7 +38,7 @@ fn right_trials() -> impl Iterator<Item = Trial> {
     RIGHT.iter().map(|library| Trial {
         mistake: None,
         library,
-        parts: library_parts().chain(program_parts()).collect(),
+        parts: library_parts().collect(),
     })
 }
 

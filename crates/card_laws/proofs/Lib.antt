@@ -4,5 +4,7 @@ pub mod Finding
 mod Valid
 mod Written
 mod Any
+mod NoOther
+mod Later
 mod Rewritten
 mod Examples
