@@ -1,0 +1,3 @@
+mod Puts
+mod Decimal
+mod Lines
