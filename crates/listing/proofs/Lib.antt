@@ -1,3 +1,6 @@
 mod Puts
 mod Decimal
 mod Lines
+mod Longest
+mod Answers
+mod Examples

@@ -2,55 +2,51 @@
 ghost use mathlib.Core.Path.{_≡_};
 ghost use lib.ListN.{length};
 ghost use Prim.Native.Nat.{_+_, _≤_};
-ghost use Rattle.listing.specs.Words.{accessWord};
-ghost use Rattle.listing.specs.List.{itemText, sizeText, numberLine};
-ghost use Rattle.listing.specs.Text.{Put};
-use crate::number::put_number;
-use crate::piece::put;
-use card_table::access;
+ghost use Rattle.card_reader.specs.declared.Reading.the-variants.{Shown};
+ghost use Rattle.listing.specs.List.{readingLine, cardLine, firstLine};
+ghost use Rattle.listing.specs.Text.{Put, longestLine, longestFirst};
+use crate::part::put_item;
+use crate::part::put_line;
+use crate::part::put_size;
+use card_reader::Reading;
+use card_reader::read;
+use card_table::Card;
+use card_table::Facts;
+use layout::refusal;
+use stack::whole;
 
-// Stores the word of an access.
-fn put_access(access: u8, at: usize, out: &mut [u8]) -> usize
-    requires { ⌜ at + length (accessWord access) ≤ length (now out) ⌝ }
-    ensures { λ r. ⌜ Put (accessWord access) at (now (out .entry)) (now (out .exit)) r ⌝ }
+// The edition at which a stack is listed. specs/List.antt has the same.
+const EDITION: u8 = 2;
+
+// Stores the line of a card's facts.
+fn put_facts(facts: Facts, at: usize, out: &mut [u8]) -> usize
+    requires { ⌜ at + length (readingLine (Shown facts)) ≤ length (now out) ⌝ }
+    ensures { λ r. ⌜ Put (readingLine (Shown facts)) at (now (out .entry)) (now (out .exit)) r ⌝ }
 {
-    if access == access::OPEN {
-        put(b"open", at, out)
-    } else if access == access::COMMUNITY {
-        put(b"community", at, out)
-    } else {
-        put(b"closed", at, out)
+    let next = put_item(facts.item, facts.access, at, out);
+    put_size(facts.width, facts.height, next, out)
+}
+
+// Stores the line of a card.
+pub(crate) fn put_card(card: &[u8], at: usize, out: &mut [u8]) -> usize
+    requires { ⌜ at + longestLine ≤ length (now out) ⌝ }
+    ensures { λ r. ⌜ Put (cardLine (now (card .entry))) at (now (out .entry)) (now (out .exit)) r ⌝ }
+{
+    let reading = read(card, EDITION);
+    match reading {
+        Reading::Refused(number) => put_line(b"- refused ", number as u64, at, out),
+        Reading::Shown(facts) => put_facts(facts, at, out),
     }
 }
 
-// Stores the item and the access, each with a space behind it.
-fn put_item(item: u64, access: u8, at: usize, out: &mut [u8]) -> usize
-    requires { ⌜ at + length (itemText item access) ≤ length (now out) ⌝ }
-    ensures { λ r. ⌜ Put (itemText item access) at (now (out .entry)) (now (out .exit)) r ⌝ }
+// Stores the first line for a stack of so many bytes.
+pub(crate) fn put_first(bytes: usize, out: &mut [u8]) -> usize
+    requires { ⌜ longestFirst ≤ length (now out) ⌝ }
+    ensures { λ r. ⌜ Put (firstLine bytes) 0 (now (out .entry)) (now (out .exit)) r ⌝ }
 {
-    let at1 = put_number(item, at, out);
-    let at2 = put(b" ", at1, out);
-    let at3 = put_access(access, at2, out);
-    put(b" ", at3, out)
-}
-
-// Stores the size, and ends the line.
-fn put_size(width: u16, height: u16, at: usize, out: &mut [u8]) -> usize
-    requires { ⌜ at + length (sizeText width height) ≤ length (now out) ⌝ }
-    ensures { λ r. ⌜ Put (sizeText width height) at (now (out .entry)) (now (out .exit)) r ⌝ }
-{
-    let at1 = put_number(width as u64, at, out);
-    let at2 = put(b"x", at1, out);
-    let at3 = put_number(height as u64, at2, out);
-    put(b"\n", at3, out)
-}
-
-// Stores words and a number, and ends the line.
-pub(crate) fn put_line(words: &[u8], n: u64, at: usize, out: &mut [u8]) -> usize
-    requires { ⌜ at + length (numberLine (now words) n) ≤ length (now out) ⌝ }
-    ensures { λ r. ⌜ Put (numberLine (now (words .entry)) n) at (now (out .entry)) (now (out .exit)) r ⌝ }
-{
-    let at1 = put(words, at, out);
-    let at2 = put_number(n, at1, out);
-    put(b"\n", at2, out)
+    if whole(bytes) {
+        put_line(b"cards ", (bytes / Card::SIZE) as u64, 0, out)
+    } else {
+        put_line(b"stack refused ", refusal::WRONG_LENGTH as u64, 0, out)
+    }
 }

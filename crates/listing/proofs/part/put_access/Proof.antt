@@ -1,11 +1,11 @@
--- `listing::line::put_access` meets its contract, word by word. Assumes nothing.
+-- `listing::part::put_access` meets its contract, word by word. Assumes nothing.
 use mathlib.Core.Path.{ap}
 use native.Mathlib.Omega.{arith}
 use lib.ListN.{length}
 use Rattle.listing.proofs.Lines.{word-open, word-community, word-closed, put-as}
 use borrow.Author.Needs.{needs}
-use Rattle.listing.proofs.line.put_access.Statement.{statement}
-use Rattle.listing.proofs.line.put_access.Tie as tie
+use Rattle.listing.proofs.part.put_access.Statement.{statement}
+use Rattle.listing.proofs.part.put_access.Tie as tie
 
 slice-aggregate-put : tie.Need-slice-aggregate-put
 slice-aggregate-put c = search needs

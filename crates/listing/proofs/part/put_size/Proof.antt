@@ -1,14 +1,14 @@
--- `listing::line::put_item` meets its contract, piece by piece. Assumes nothing.
+-- `listing::part::put_size` meets its contract, piece by piece. Assumes nothing.
 use native.Mathlib.Omega.{arith}
-use Rattle.listing.proofs.Lines.{length-item, item-put}
+use Rattle.listing.proofs.Lines.{length-size, size-put}
 use borrow.Author.Needs.{needs}
-use Rattle.listing.proofs.line.put_item.Statement.{statement}
-use Rattle.listing.proofs.line.put_item.Tie as tie
+use Rattle.listing.proofs.part.put_size.Statement.{statement}
+use Rattle.listing.proofs.part.put_size.Tie as tie
 
 put-number-requires : tie.Need-put-number-requires
 put-number-requires c κs =
     let s = c .before .before in
-    omega (arith, length-item (s .args .item) (s .args .access))
+    omega (arith, length-size (s .args .width) (s .args .height))
 
 slice-aggregate-put : tie.Need-slice-aggregate-put
 slice-aggregate-put c = search needs
@@ -16,12 +16,12 @@ slice-aggregate-put c = search needs
 put-requires : tie.Need-put-requires
 put-requires c κs =
     let s = c .before .before .before .before .before .before .before in
-    omega (arith, length-item (s .args .item) (s .args .access))
+    omega (arith, length-size (s .args .width) (s .args .height))
 
-put-access-requires : tie.Need-put-access-requires
-put-access-requires c κs =
+put-number-requires-2 : tie.Need-put-number-requires-2
+put-number-requires-2 c κs =
     let s = c .before .before .before .before .before .before .before .before .before .before .before in
-    omega (arith, length-item (s .args .item) (s .args .access))
+    omega (arith, length-size (s .args .width) (s .args .height))
 
 slice-aggregate-put-2 : tie.Need-slice-aggregate-put-2
 slice-aggregate-put-2 c = search needs
@@ -29,7 +29,7 @@ slice-aggregate-put-2 c = search needs
 put-requires-2 : tie.Need-put-requires-2
 put-requires-2 c κs =
     let s = c .before .before .before .before .before .before .before .before .before .before .before .before .before .before .before .before in
-    omega (arith, length-item (s .args .item) (s .args .access))
+    omega (arith, length-size (s .args .width) (s .args .height))
 
 same-length : tie.Need-same-length
 same-length c = search needs
@@ -41,16 +41,16 @@ returns c =
     let p2 = p3 .before .before .before .before in
     let p1 = p2 .before .before .before .before .before in
     let a = p1 .before .before .before .args in
-    item-put (a .item) (a .access) (p1 .put-number .ensures) (p2 .put .ensures) (p3 .put-access .ensures) (p4 .put2 .ensures)
+    size-put (a .width) (a .height) (p1 .put-number .ensures) (p2 .put .ensures) (p3 .put-number2 .ensures) (p4 .put2 .ensures)
 
-pub put-item-spec : {M : Type 1} → statement M
-put-item-spec =
+pub put-size-spec : {M : Type 1} → statement M
+put-size-spec =
     tie.close
     (tie.spec
     put-number-requires
     slice-aggregate-put
     put-requires
-    put-access-requires
+    put-number-requires-2
     slice-aggregate-put-2
     put-requires-2
     same-length

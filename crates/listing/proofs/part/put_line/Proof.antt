@@ -1,10 +1,10 @@
--- `listing::line::put_line` meets its contract, piece by piece. Assumes nothing.
+-- `listing::part::put_line` meets its contract, piece by piece. Assumes nothing.
 use denote.Ref.{now}
 use native.Mathlib.Omega.{arith}
 use Rattle.listing.proofs.Lines.{length-line, line-put}
 use borrow.Author.Needs.{needs}
-use Rattle.listing.proofs.line.put_line.Statement.{statement}
-use Rattle.listing.proofs.line.put_line.Tie as tie
+use Rattle.listing.proofs.part.put_line.Statement.{statement}
+use Rattle.listing.proofs.part.put_line.Tie as tie
 
 put-requires : tie.Need-put-requires
 put-requires c κs =
