@@ -6,7 +6,7 @@ use Prim.Native.Nat.{ℕ, zero, suc, _+_, _-_, _*_, _%_, _≤_, _<_}
 use native.Mathlib.Nat.{add-zero, zero-add}
 use native.Mathlib.Numerals.{add-one}
 use native.Mathlib.Omega.{arith}
-use borrow.Author.Tests.{leb-true, lt-ltb, le-ltb}
+use borrow.Author.Tests.{leb-true, ltb-false, lt-ltb, le-ltb}
 use lib.Dec.{eqb, leb, ltb}
 use lib.ListN.{length, length-append, take, drop}
 use Rattle.lists.proofs.Tests.{and-right, pass, stop}
@@ -96,3 +96,12 @@ module _ (s : List ℕ) where
     pub written-all : {zs : List ℕ} {next : ℕ} → wholeStack (length s) ≡ true → Put (cardLines s (cardsIn (length s))) m ys zs next
         → (Written next ≡ textAnswer (listText s) (length out)) × (zs ≡ textOutput (listText s) out)
     written-all e q = written h (put-as (whole-list e) (put-join p q))
+
+  -- what was written lies within the output
+  pub within : (n bytes : ℕ) → Written n ≡ textAnswer (listText s) bytes → n ≤ bytes
+  unfolding textAnswer
+  within n bytes h = by (ltb bytes longestList) refl h
+    where
+      by : (t : Bool) → ltb bytes longestList ≡ t → Written n ≡ cond t (Refused 13) (Written (length (listText s))) → n ≤ bytes
+      by true e h = let z : _≡_ {A = ℕ} 0 1 = cc in absurd (omega arith)
+      by false e h = let z : n ≡ length (listText s) = cc in omega (arith, list-longest, ltb-false bytes longestList e)

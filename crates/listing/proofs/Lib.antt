@@ -2,5 +2,5 @@ mod Puts
 mod Decimal
 mod Lines
 mod Longest
-mod Answers
+pub mod Answers
 mod Examples

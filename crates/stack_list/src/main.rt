@@ -1,0 +1,4 @@
+// Lists the stack on standard input.
+fn main() {
+    listing_program::run();
+}
