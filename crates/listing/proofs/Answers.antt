@@ -6,9 +6,10 @@ use Prim.Native.Nat.{ℕ, zero, suc, _+_, _-_, _*_, _%_, _≤_, _<_}
 use native.Mathlib.Nat.{add-zero, zero-add}
 use native.Mathlib.Numerals.{add-one}
 use native.Mathlib.Omega.{arith}
-use borrow.Author.Tests.{leb-true, ltb-false, lt-ltb, le-ltb}
+use borrow.Author.Tests.{leb-true, lt-ltb, le-ltb}
 use lib.Dec.{eqb, leb, ltb}
 use lib.ListN.{length, length-append, take, drop}
+use lib.Seq.{take-at}
 use Rattle.lists.proofs.Tests.{and-right, pass, stop}
 use Rattle.card_table.specs.Table.{cardSize}
 use Rattle.stack.specs.Stack.{cardsIn, wholeStack, cardAt}
@@ -97,11 +98,21 @@ module _ (s : List ℕ) where
         → (Written next ≡ textAnswer (listText s) (length out)) × (zs ≡ textOutput (listText s) out)
     written-all e q = written h (put-as (whole-list e) (put-join p q))
 
-  -- what was written lies within the output
-  pub within : (n bytes : ℕ) → Written n ≡ textAnswer (listText s) bytes → n ≤ bytes
-  unfolding textAnswer
-  within n bytes h = by (ltb bytes longestList) refl h
-    where
-      by : (t : Bool) → ltb bytes longestList ≡ t → Written n ≡ cond t (Refused 13) (Written (length (listText s))) → n ≤ bytes
-      by true e h = let z : _≡_ {A = ℕ} 0 1 = cc in absurd (omega arith)
-      by false e h = let z : n ≡ length (listText s) = cc in omega (arith, list-longest, ltb-false bytes longestList e)
+  -- an output that every list fits in is not refused, and its front is then the text
+  module _ (before : List ℕ) (h : 42000 ≤ length before) where
+    accepted : textAnswer (listText s) (length before) ≡ Written (length (listText s))
+    unfolding textAnswer
+    accepted = pass (Refused 13) (le-ltb (length before) longestList h) refl
+
+    pub not-refused : (k : ℕ) → Refused k ≡ textAnswer (listText s) (length before) → ⊥
+    not-refused k e = let f : Refused k ≡ Written (length (listText s)) = e ∙ accepted in let z : _≡_ {A = ℕ} 0 1 = cc in omega arith
+
+    pub holds-text : (n : ℕ) {after : List ℕ} → Written n ≡ textAnswer (listText s) (length before) → after ≡ textOutput (listText s) before
+        → (n ≤ length before) × (take n after ≡ listText s)
+    unfolding textOutput
+    holds-text n {after} e o =
+        let f : Written n ≡ Written (length (listText s)) = e ∙ accepted in
+        let z : n ≡ length (listText s) = cc in (
+          omega (arith, list-longest),
+          ap (take n) (o ∙ ap (λ (a : Text). kept a before (listText s)) accepted) ∙ take-at (listText s) (drop (length (listText s)) before) n (sym z),
+        )

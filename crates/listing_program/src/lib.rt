@@ -1,5 +1,9 @@
 // The program that lists a stack: standard input to standard output (document 01, "The stack list").
-ghost use lib.ListN.{length};
+ghost use mathlib.Core.Path.{_≡_};
+ghost use lib.ListN.{length, take};
+ghost use Prim.Native.Nat.{_≤_};
+ghost use Rattle.listing.specs.List.{listText};
+ghost use Rattle.listing.specs.Text.{longestList};
 ghost use Rattle.listing_program.specs.Input.{Within};
 use card_table::Card;
 use libc::STDERR_FILENO;
@@ -45,18 +49,23 @@ fn read_all(buffer: &mut [u8]) -> Input
     Input::Bytes(done)
 }
 
-// Prints the list of a stack, by way of `text`.
-fn print(stack: &[u8], text: &mut [u8]) {
+// Puts the list of a stack at the front of `text`, and answers how many bytes it has. (A text so long is not refused.)
+fn text_of(stack: &[u8], text: &mut [u8]) -> usize
+    requires { ⌜ longestList ≤ length (now text) ⌝ }
+    ensures { λ r. ⌜ (r ≤ length (now (text .exit))) × (take r (now (text .exit)) ≡ listText (now (stack .entry))) ⌝ }
+{
     match listing::list(stack, text) {
-        Text::Written(n) => {
-            if !io::write_all(STDOUT_FILENO, &text[..n]) {
-                io::write_all(
-                    STDERR_FILENO,
-                    b"stack_list: standard output could not be written\n",
-                );
-            }
-        }
-        Text::Refused(_) => {}
+        Text::Written(n) => n,
+        Text::Refused(_) => 0,
+    }
+}
+
+fn print(text: &[u8]) {
+    if !io::write_all(STDOUT_FILENO, text) {
+        io::write_all(
+            STDERR_FILENO,
+            b"stack_list: standard output could not be written\n",
+        );
     }
 }
 
@@ -65,7 +74,10 @@ pub fn run() {
     let mut buffer = [0u8; ROOM];
     let mut text = [0u8; Text::LONGEST];
     match read_all(&mut buffer) {
-        Input::Bytes(n) => print(&buffer[..n], &mut text),
+        Input::Bytes(n) => {
+            let bytes = text_of(&buffer[..n], &mut text);
+            print(&text[..bytes]);
+        }
         Input::Failed => {
             io::write_all(
                 STDERR_FILENO,

@@ -24,11 +24,20 @@ enum-known-n c = search needs
 array-share-prefix-buffer : tie.Need-array-share-prefix-buffer
 array-share-prefix-buffer c = came c
 
-slice-aggregate-print : tie.Need-slice-aggregate-print
-slice-aggregate-print c = sym (length-take-le _ _ (came (c .before)))
+slice-aggregate-text-of : tie.Need-slice-aggregate-text-of
+slice-aggregate-text-of c = sym (length-take-le _ _ (came (c .before)))
 
-slice-aggregate-print-2 : tie.Need-slice-aggregate-print-2
-slice-aggregate-print-2 c = search needs
+slice-aggregate-text-of-2 : tie.Need-slice-aggregate-text-of-2
+slice-aggregate-text-of-2 c = search needs
+
+text-of-requires : tie.Need-text-of-requires
+text-of-requires c κs = search needs
+
+array-share-prefix-text : tie.Need-array-share-prefix-text
+array-share-prefix-text c = search needs
+
+slice-aggregate-print : tie.Need-slice-aggregate-print
+slice-aggregate-print c = sym (length-take-le _ _ (c .before .before .text-of .ensures .0))
 
 print-requires : tie.Need-print-requires
 print-requires c κs = search needs
@@ -56,8 +65,11 @@ run-spec =
     read-all-requires
     enum-known-n
     array-share-prefix-buffer
+    slice-aggregate-text-of
+    slice-aggregate-text-of-2
+    text-of-requires
+    array-share-prefix-text
     slice-aggregate-print
-    slice-aggregate-print-2
     print-requires
     enum-told
     slice-aggregate-write-all
