@@ -1,19 +1,19 @@
 -- The lines of all cards, and the whole list with its answer. Assumes nothing.
-use mathlib.Core.Path.{_≡_, refl, sym, ap, ap₂, _∙_, subst}
+use mathlib.Core.Path.{_≡_, refl, sym, ap, _∙_}
 use mathlib.Core.Bool.{Bool, true, false, cond}
-use mathlib.Core.List.{List, [], _++_, append-nil}
+use mathlib.Core.List.{List, _++_, append-nil}
 use Prim.Native.Nat.{ℕ, zero, suc, _+_, _-_, _*_, _%_, _≤_, _<_}
 use native.Mathlib.Nat.{add-zero, zero-add}
 use native.Mathlib.Numerals.{add-one}
 use native.Mathlib.Omega.{arith}
 use borrow.Author.Tests.{leb-true, lt-ltb, le-ltb}
-use lib.Dec.{eqb, leb, ltb}
+use lib.Dec.{eqb, leb}
 use lib.ListN.{length, length-append, take, drop}
 use lib.Seq.{take-at}
 use Rattle.lists.proofs.Tests.{and-right, pass, stop}
 use Rattle.card_table.specs.Table.{cardSize}
 use Rattle.stack.specs.Stack.{cardsIn, wholeStack, cardAt}
-use Rattle.listing.specs.List.{cardLine, firstLine, cardLines, listed, listText}
+use Rattle.listing.specs.List.{cardLine, firstLine, cardLines, listText}
 use Rattle.listing.specs.declared.Text.{Text}
 use Rattle.listing.specs.declared.Text.the-variants.{Written, Refused}
 use Rattle.listing.specs.Text.{Put, longestList, textAnswer, kept, textOutput}

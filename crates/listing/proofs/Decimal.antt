@@ -2,10 +2,10 @@
 use mathlib.Core.Path.{_≡_, refl, sym, ap, _∙_, subst}
 use mathlib.Core.Bool.{Bool, true, false}
 use mathlib.Core.List.{List, [], _∷_, _++_}
-use Prim.Native.Nat.{ℕ, zero, suc, _+_, _*_, _/_, _%_, _^_, _≤_, _<_}
+use Prim.Native.Nat.{ℕ, zero, suc, _+_, _/_, _%_, _^_, _≤_, _<_}
 use native.Mathlib.Nat.{pow-suc}
 use native.Mathlib.Omega.{arith}
-use borrow.Author.Tests.{ltb-true, ltb-false, lt-ltb, le-ltb}
+use borrow.Author.Tests.{lt-ltb, le-ltb}
 use lib.Dec.{ltb}
 use lib.ListN.{length, length-append}
 use Rattle.lists.proofs.Tests.{pass, stop}
@@ -13,20 +13,20 @@ use Rattle.listing.specs.Decimal.{digit, digits, decimal}
 use Rattle.listing.specs.Text.{Put}
 use Rattle.listing.proofs.Puts.{put-join}
 
-one : (k n : ℕ) → ltb n 10 ≡ true → digits (suc k) n ≡ digit n ∷ []
+pub one : (k n : ℕ) → ltb n 10 ≡ true → digits (suc k) n ≡ digit n ∷ []
 unfolding digits
 one k n e = stop _ e
 
-step : (k n : ℕ) → ltb n 10 ≡ false → digits (suc k) n ≡ digits k (n / 10) ++ (digit (n % 10) ∷ [])
+pub step : (k n : ℕ) → ltb n 10 ≡ false → digits (suc k) n ≡ digits k (n / 10) ++ (digit (n % 10) ∷ [])
 unfolding digits
 step k n e = pass _ e refl
 
 -- one digit, or more
-split : {A : Type 0} (t : Bool) → (t ≡ true → A) → (t ≡ false → A) → A
+pub split : {A : Type 0} (t : Bool) → (t ≡ true → A) → (t ≡ false → A) → A
 split true a b = a refl
 split false a b = b refl
 
-tenth : (k n : ℕ) → n < 10 ^ suc k → n / 10 < 10 ^ k
+pub tenth : (k n : ℕ) → n < 10 ^ suc k → n / 10 < 10 ^ k
 tenth k n h = omega (arith, rw pow-suc at h)
 
 -- more places than a number has change nothing

@@ -8,7 +8,7 @@ use Rattle.card_table.specs.Edition.{leastEdition}
 use Rattle.card_table.specs.Facts.{factsValid}
 use Rattle.card_reader.specs.Reading.{accessOf, layoutIn, factsIn, frontRight, accessUnknown, endWrong, readCard}
 use Rattle.listing.specs.Decimal.{digits, decimal}
-use Rattle.listing.specs.Words.{newline, closedWord, accessWord}
+use Rattle.listing.specs.Words.{closedWord, accessWord}
 use Rattle.listing.specs.List.{itemText, sizeText, numberLine, cardLine, firstLine, cardLines, listText}
 
 -- item 7, open, 720 by 576: Y'CbCr, BT.709, narrow, 10 bits in four bytes, written at 2

@@ -1,6 +1,7 @@
+pub mod Claims
+pub mod Answers
 mod Puts
 mod Decimal
 mod Lines
 mod Longest
-pub mod Answers
 mod Examples

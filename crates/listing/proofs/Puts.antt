@@ -40,13 +40,6 @@ put-next p i {xs} {ys} {zs} {at} h a e =
 pub put-all : (p : List ℕ) (i : ℕ) {xs ys : List ℕ} {at next : ℕ} → length p ≤ i → Put (take i p) at xs ys next → Put p at xs ys next
 put-all p i {xs} {ys} {at} {next} h a = subst (λ (q : List ℕ). Put q at xs ys next) (take-all i p h) a
 
--- where two pieces have room, each has
-pub fits-first : (p q : List ℕ) (at : ℕ) {n : ℕ} → at + length (p ++ q) ≤ n → at + length p ≤ n
-fits-first p q at h = omega (arith, length-append p q)
-
-pub fits-second : (p q : List ℕ) (at : ℕ) {n m : ℕ} → at + length (p ++ q) ≤ n → m ≡ at + length p → m + length q ≤ n
-fits-second p q at h e = omega (arith, length-append p q)
-
 -- a text at the front of an output, and behind it what was there before
 pub front : {p xs ys : List ℕ} {next : ℕ} → length p ≤ length xs → Put p 0 xs ys next → ys ≡ p ++ drop next xs
 front {p} {xs} {ys} {next} h a =

@@ -4,7 +4,6 @@ use mathlib.Core.Bool.{cond}
 use mathlib.Core.List.{List, [], _++_}
 use lib.ListN.{length}
 use Rattle.layout.specs.Refusal.{wrongLength}
-use Rattle.card_table.specs.declared.facts.Facts.{Facts}
 use Rattle.card_reader.specs.declared.Reading.{Reading}
 use Rattle.card_reader.specs.declared.Reading.the-variants.{Shown, Refused}
 use Rattle.card_reader.specs.Reading.{readCard}
@@ -16,14 +15,15 @@ use Rattle.listing.specs.Words.{space, by, newline, cardsWord, stackRefu
 abbrev pub listEdition : ℕ
 listEdition = 2
 
--- `ITEM WORD WIDTHxHEIGHT`
+-- `ITEM WORD `, with a space behind each
 unfoldable pub itemText : ℕ → ℕ → List ℕ
 itemText item access = decimal item ++ space ++ accessWord access ++ space
 
+-- `WIDTHxHEIGHT`, and the line's end
 unfoldable pub sizeText : ℕ → ℕ → List ℕ
 sizeText width height = decimal width ++ by ++ decimal height ++ newline
 
--- a refusal's line: its words and its number
+-- a line of words and a number
 unfoldable pub numberLine : List ℕ → ℕ → List ℕ
 numberLine words n = words ++ decimal n ++ newline
 

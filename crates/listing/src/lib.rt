@@ -9,9 +9,9 @@ use card_table::Card;
 use layout::refusal;
 use stack::whole;
 
+mod field;
 mod line;
 mod number;
-mod part;
 mod piece;
 
 // How many bytes of text were written, or the refusal's number.

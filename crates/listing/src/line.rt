@@ -1,13 +1,12 @@
 // The lines of the list.
-ghost use mathlib.Core.Path.{_≡_};
 ghost use lib.ListN.{length};
 ghost use Prim.Native.Nat.{_+_, _≤_};
 ghost use Rattle.card_reader.specs.declared.Reading.the-variants.{Shown};
 ghost use Rattle.listing.specs.List.{readingLine, cardLine, firstLine};
 ghost use Rattle.listing.specs.Text.{Put, longestLine, longestFirst};
-use crate::part::put_item;
-use crate::part::put_line;
-use crate::part::put_size;
+use crate::field::put_item;
+use crate::field::put_line;
+use crate::field::put_size;
 use card_reader::Reading;
 use card_reader::read;
 use card_table::Card;

@@ -1,5 +1,4 @@
 // Numbers as text.
-ghost use mathlib.Core.Path.{_≡_};
 ghost use mathlib.Core.List.{[], _∷_};
 ghost use lib.ListN.{length};
 ghost use Prim.Native.Nat.{_+_, _%_, _≤_, _<_};

@@ -1,5 +1,4 @@
 // Pieces of text, stored one after the other.
-ghost use mathlib.Core.Path.{_≡_};
 ghost use lib.ListN.{length};
 ghost use Prim.Native.Nat.{_+_, _≤_};
 ghost use Rattle.listing.specs.Text.{Put};

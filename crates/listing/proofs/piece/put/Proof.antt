@@ -1,7 +1,7 @@
 -- `listing::piece::put` meets its contract: the invariant is what was stored so far. Assumes nothing.
 use denote.Ref.{now}
 use Prim.Native.Nat.{_≤_, _-_, _+_}
-use mathlib.Core.Path.{_≡_, refl, sym, ap, _∙_}
+use mathlib.Core.Path.{_≡_, refl, _∙_}
 use native.Mathlib.Omega.{arith}
 use lib.ListN.{length, length-set, getD, take}
 use Rattle.listing.specs.Text.{Put}

@@ -1,5 +1,4 @@
-// Pieces of the lines.
-ghost use mathlib.Core.Path.{_≡_};
+// The fields of a line.
 ghost use lib.ListN.{length};
 ghost use Prim.Native.Nat.{_+_, _≤_};
 ghost use Rattle.listing.specs.Words.{accessWord};
