@@ -71,7 +71,7 @@ number-one n {at} {next} {xs} {ys} h a = subst (λ (p : List ℕ). Put p at xs y
 pub number-more : (n : ℕ) {at m next : ℕ} {xs ys zs : List ℕ} → 10 ≤ n → n < 10 ^ 20 → Put (decimal (n / 10)) at xs ys m → Put (digit (n % 10) ∷ []) m ys zs next → Put (decimal n) at xs zs next
 number-more n {at} {m} {next} {xs} {ys} {zs} l h a b = subst (λ (p : List ℕ). Put p at xs zs next) (decimal-more n l h) (put-join a b)
 
--- where all digits have room, all but the last have, and one more
+-- how many digits there are
 pub length-more : (n : ℕ) → 10 ≤ n → n < 10 ^ 20 → length (decimal n) ≡ length (decimal (n / 10)) + 1
 length-more n l h = sym (ap length (decimal-more n l h)) ∙ length-append (decimal (n / 10)) (digit (n % 10) ∷ [])
 

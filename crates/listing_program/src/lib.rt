@@ -18,7 +18,7 @@ pub enum Input {
 }
 
 // One byte more than the largest stack has, so that a longer input is seen to be too long.
-const ROOM: usize = Card::SIZE * Card::STACK_LIMIT + 1;
+const MOST_READ: usize = Card::SIZE * Card::STACK_LIMIT + 1;
 
 // Reads once, and answers how many bytes came to the front of `rest`; none at the input's end.
 fn read_some(rest: &mut [u8]) -> Input
@@ -49,7 +49,8 @@ fn read_all(buffer: &mut [u8]) -> Input
     Input::Bytes(done)
 }
 
-// Puts the list of a stack at the front of `text`, and answers how many bytes it has. (A text so long is not refused.)
+// Puts the list of a stack at the front of `text`, and answers how many bytes it has. (An output of that length is never
+// refused.)
 fn text_of(stack: &[u8], text: &mut [u8]) -> usize
     requires { ⌜ longestList ≤ length (now text) ⌝ }
     ensures { λ r. ⌜ (r ≤ length (now (text .exit))) × (take r (now (text .exit)) ≡ listText (now (stack .entry))) ⌝ }
@@ -71,7 +72,7 @@ fn print(text: &[u8]) {
 
 // Reads a stack and prints its list. Where reading fails, nothing is listed.
 pub fn run() {
-    let mut buffer = [0u8; ROOM];
+    let mut buffer = [0u8; MOST_READ];
     let mut text = [0u8; Text::LONGEST];
     match read_all(&mut buffer) {
         Input::Bytes(n) => {

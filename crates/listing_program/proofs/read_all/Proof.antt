@@ -1,4 +1,4 @@
--- `listing_program::read_all` meets its contract: no more is read than there is room for. Assumes nothing.
+-- `listing_program::read_all` meets its contract: no more is read than the buffer holds. Assumes nothing.
 use native.Mathlib.Omega.{arith}
 use Rattle.listing_program.proofs.Within.{bytes-within}
 use Prim.Native.Nat.{_≤_, _-_}
@@ -14,7 +14,7 @@ Inv-loop buffer₀ done₀ buffer done = (done ≤ length buffer) × (length buf
 abbrev μ-loop : tie.MeasureT-loop
 μ-loop buffer₀ done₀ buffer done = length buffer₀ - done
 
--- no more came than there was room for
+-- no more came than the rest of the buffer holds
 came : (c : tie.Else1 Inv-loop μ-loop) → c .before .before .got .given .0 .0 ≤ length (c .before .before .before .before .before .before .read-some .last .0)
 came c =
     let g = c .before .before .got .given in
