@@ -107,12 +107,10 @@ module _ (s : List ℕ) where
     pub not-refused : (k : ℕ) → Refused k ≡ textAnswer (listText s) (length before) → ⊥
     not-refused k e = let f : Refused k ≡ Written (length (listText s)) = e ∙ accepted in let z : _≡_ {A = ℕ} 0 1 = cc in omega arith
 
-    pub holds-text : (n : ℕ) {after : List ℕ} → Written n ≡ textAnswer (listText s) (length before) → after ≡ textOutput (listText s) before
-        → (n ≤ length before) × (take n after ≡ listText s)
+    pub leaves : (n : ℕ) {after : List ℕ} → Written n ≡ textAnswer (listText s) (length before) → after ≡ textOutput (listText s) before
+        → (n ≡ length (listText s)) × (n ≤ length before) × (after ≡ listText s ++ drop n before)
     unfolding textOutput
-    holds-text n {after} e o =
+    leaves n {after} e o =
         let f : Written n ≡ Written (length (listText s)) = e ∙ accepted in
-        let z : n ≡ length (listText s) = cc in (
-          omega (arith, list-longest),
-          ap (take n) (o ∙ ap (λ (a : Text). kept a before (listText s)) accepted) ∙ take-at (listText s) (drop (length (listText s)) before) n (sym z),
-        )
+        let z : n ≡ length (listText s) = cc in
+        (z, omega (arith, list-longest), o ∙ ap (λ (a : Text). kept a before (listText s)) (sym e))

@@ -1,24 +1,46 @@
 // The program that lists a stack: standard input to standard output (document 01, "The stack list").
 ghost use mathlib.Core.Path.{_≡_};
-ghost use lib.ListN.{length, take};
+ghost use lib.ListN.{length};
 ghost use Prim.Native.Nat.{_≤_};
 ghost use Rattle.listing.specs.List.{listText};
 ghost use Rattle.listing.specs.Text.{longestList};
 ghost use Rattle.listing_program.specs.Input.{Within};
+ghost use Rattle.listing_program.specs.Ran.{ListedAs, fits, Holds};
 use card_table::Card;
+use layout::refusal;
 use libc::STDERR_FILENO;
 use libc::STDIN_FILENO;
 use libc::STDOUT_FILENO;
 use listing::Text;
 
+// What the program did.
+pub enum Ran {
+    // So many bytes were read, and the list of them, of so many bytes, is at the front of the text.
+    Listed(usize, usize),
+    // A read failed, and nothing is listed.
+    NotRead,
+    // The refusal's number; nothing was read.
+    Refused(u8),
+}
+
 // How many bytes were read, or that a read failed.
-pub enum Input {
+enum Input {
     Bytes(usize),
     Failed,
 }
 
 // One byte more than the largest stack has, so that a longer input is seen to be too long.
-const MOST_READ: usize = Card::SIZE * Card::STACK_LIMIT + 1;
+pub const MOST_READ: usize = Card::SIZE * Card::STACK_LIMIT + 1;
+
+// No list is longer.
+pub const LONGEST: usize = Text::LONGEST;
+
+// Whether a buffer and a text are as long as the program needs them.
+fn fit(buffer: usize, text: usize) -> bool
+    ensures { λ r. ⌜ r ≡ fits buffer text ⌝ }
+{
+    (buffer == MOST_READ) & (LONGEST <= text)
+}
 
 // Reads once, and answers how many bytes came to the front of `rest`; none at the input's end.
 fn read_some(rest: &mut [u8]) -> Input
@@ -49,11 +71,10 @@ fn read_all(buffer: &mut [u8]) -> Input
     Input::Bytes(done)
 }
 
-// Puts the list of a stack at the front of `text`, and answers how many bytes it has. (An output of that length is never
-// refused.)
+// Puts the list of a stack at the front of `text`, and answers how many bytes it has. (A text of that length is never refused.)
 fn text_of(stack: &[u8], text: &mut [u8]) -> usize
     requires { ⌜ longestList ≤ length (now text) ⌝ }
-    ensures { λ r. ⌜ (r ≤ length (now (text .exit))) × (take r (now (text .exit)) ≡ listText (now (stack .entry))) ⌝ }
+    ensures { λ r. ⌜ ListedAs r (listText (now (stack .entry))) (now (text .entry)) (now (text .exit)) ⌝ }
 {
     match listing::list(stack, text) {
         Text::Written(n) => n,
@@ -70,20 +91,26 @@ fn print(text: &[u8]) {
     }
 }
 
-// Reads a stack and prints its list. Where reading fails, nothing is listed.
-pub fn run() {
-    let mut buffer = [0u8; MOST_READ];
-    let mut text = [0u8; Text::LONGEST];
-    match read_all(&mut buffer) {
+// Reads a stack into the buffer, puts its list at the front of the text and prints that. Where reading fails, nothing is
+// listed. Refused by 13: a buffer that is not of MOST_READ bytes, or a text that could not hold every list.
+pub fn run(buffer: &mut [u8], text: &mut [u8]) -> Ran
+    ensures { λ r. ⌜ Holds r (now (buffer .entry)) (now (buffer .exit)) (now (text .entry)) (now (text .exit)) ⌝ }
+{
+    if !fit(buffer.len(), text.len()) {
+        return Ran::Refused(refusal::WRONG_LINE_OR_OUTPUT);
+    }
+    match read_all(buffer) {
         Input::Bytes(n) => {
-            let bytes = text_of(&buffer[..n], &mut text);
+            let bytes = text_of(&buffer[..n], text);
             print(&text[..bytes]);
+            Ran::Listed(n, bytes)
         }
         Input::Failed => {
             io::write_all(
                 STDERR_FILENO,
                 b"stack_list: standard input could not be read\n",
             );
+            Ran::NotRead
         }
     }
 }

@@ -1,4 +1,6 @@
 // Lists the stack on standard input: the program itself. The gate runs it on the paper's example.
 fn main() {
-    listing_program::run();
+    let mut buffer = [0u8; listing_program::MOST_READ];
+    let mut text = [0u8; listing_program::LONGEST];
+    listing_program::run(&mut buffer, &mut text);
 }

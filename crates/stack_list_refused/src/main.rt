@@ -1,4 +1,6 @@
 // Lists a stack of two cards and one byte more.
 fn main() {
-    listing_program::run();
+    let mut buffer = [0u8; listing_program::MOST_READ];
+    let mut text = [0u8; listing_program::LONGEST];
+    listing_program::run(&mut buffer, &mut text);
 }

@@ -2,7 +2,7 @@
 use mathlib.Core.Path.{sym, _∙_}
 use denote.Ref.{now}
 use native.Mathlib.Omega.{arith}
-use Rattle.listing.proofs.Answers.{not-refused, holds-text}
+use Rattle.listing.proofs.Answers.{not-refused, leaves}
 use borrow.Author.Needs.{needs}
 use Rattle.listing_program.proofs.text_of.Statement.{statement}
 use Rattle.listing_program.proofs.text_of.Tie as tie
@@ -25,8 +25,8 @@ returns c =
     let l = c .before .before .before .before .before in
     let s = l .before .before .before .before in
     let a = s .args in
-    let h = holds-text (now (a .stack)) (now (a .text)) (s .pre) (g .0 .0) (sym (g .1) ∙ l .list .ensures .0) (l .list .ensures .1) in
-    (omega (arith, h .0), h .1)
+    let h = leaves (now (a .stack)) (now (a .text)) (s .pre) (g .0 .0) (sym (g .1) ∙ l .list .ensures .0) (l .list .ensures .1) in
+    record { long = h .0; within = omega (arith, h .1); front = h .2 }
 
 same-length-2 : tie.Need-same-length-2
 same-length-2 c = search needs
