@@ -1,8 +1,8 @@
 -- What only private functions cite. Assumes nothing.
 use mathlib.Core.Path.{_≡_}
 use Rattle.layout.specs.declared.Layout.{Layout}
+use Rattle.quantization.specs.Answer.{scaleAt}
 use Rattle.packing.specs.declared.encode.Scales.{Scales}
-use Rattle.packing.specs.Encode.{scaleAt}
 
 -- the three scales are the layout's
 pub record Fitted (l : Layout) (s : Scales) : Type 0 where

@@ -7,7 +7,7 @@ use Rattle.layout.proofs.Depths.{known-bits}
 use Rattle.layout.proofs.Facts.{valid-says}
 use Rattle.quantization.specs.declared.scale.Scale.{Scale}
 use Rattle.quantization.specs.Scale.{scaleOf}
-use Rattle.packing.specs.Encode.{scaleAt}
+use Rattle.quantization.specs.Answer.{scaleAt}
 use Rattle.packing.proofs.encode.scales_of.Statement.{statement}
 use Rattle.packing.proofs.encode.scales_of.Tie as tie
 
