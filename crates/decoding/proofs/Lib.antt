@@ -1,0 +1,3 @@
+mod Masks
+pub mod One
+mod Values
