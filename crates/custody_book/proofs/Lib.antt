@@ -1,0 +1,3 @@
+mod Agree
+mod Means
+pub mod Claims
