@@ -48,7 +48,7 @@ first : (a b c d e f : Bool) → a && b && c && d && e && f ≡ true → a ≡ t
 first true b c d e f h = refl
 first false b c d e f h = h
 
-layout-valid : (f : Facts) → factsValid f ≡ true → validLayout (f .layout) ≡ true
+pub layout-valid : (f : Facts) → factsValid f ≡ true → validLayout (f .layout) ≡ true
 unfolding factsValid
 layout-valid f v =
     first (validLayout (f .layout)) (sideKnown (f .width)) (sideKnown (f .height)) (leb 1 (f .item)) (ltb (f .item) (2 ^ 64)) (accessKnown (f .access)) v
@@ -149,7 +149,7 @@ module _ (e : ℕ) (f : Facts) (a : ℕ) (v : validAt e (withAccess f a) ≡ tru
 -- ---- the whole list
 
 -- what is read of a card that is valid at an edition, and decoded by it
-valid-facts : (e : ℕ) (f : Facts) → validAt e f ≡ true → factsValid f ≡ true
+pub valid-facts : (e : ℕ) (f : Facts) → validAt e f ≡ true → factsValid f ≡ true
 unfolding validAt
 valid-facts e f v = and3 (editionKnown e) (factsValid f) (not (unwritable e f)) v .1
 

@@ -3,16 +3,20 @@ use mathlib.Core.Path.{_≡_, refl, sym, ap, ap₂, _∙_, subst}
 use mathlib.Core.Bool.{Bool, true, false, not, cond, _&&_, and-false}
 use mathlib.Core.Logic.{_⊎_, inl, inr}
 use mathlib.Core.List.{List, [], _∷_}
-use Prim.Native.Nat.{ℕ, _*_}
+use Prim.Native.Nat.{ℕ, _*_, _/_, _%_}
+use native.Mathlib.Nat.{div-add-mod}
 use native.Mathlib.Omega.{arith}
 use borrow.Author.Tests.{eqb-true, eq-eqb}
-use lib.Dec.{eqb, ltb}
-use lib.Ieee.{Float}
-use lib.ListN.{length}
-use Rattle.lists.proofs.Tests.{pass, stop, or-cases}
+use lib.Dec.{eqb, leb, ltb}
+use lib.Ieee.{Float, nan}
+use lib.ListN.{length, getD}
+use Rattle.lists.proofs.Tests.{and-left, pass, stop, or-cases}
 use Rattle.layout.specs.declared.Layout.{Layout}
+use Rattle.layout.specs.Layout.{kindOf, validLayout}
+use Rattle.quantization.specs.Answer.{named}
 use Rattle.line.specs.declared.LineAnswer.the-variants.{Points, Refused as LineRefused}
 use Rattle.decoding.specs.Decode.{valuesOf}
+use Rattle.decoding_laws.proofs.Claims.{decodes-each-code}
 use Rattle.card_table.specs.declared.facts.Facts.{Facts}
 use Rattle.card_table.specs.Edition.{editionKnown, leastEdition}
 use Rattle.card_table.specs.Facts.{closed, withAccess}
@@ -177,6 +181,15 @@ module _ (f : Facts) (last : ℕ) (packed : List ℕ) (values : List Float) wher
   values-from b [] = refl
   values-from b (r ∷ rs) = values-from (bookAfter (bookAnswer f r) f b (r .edition)) rs
 
+-- a captured line is of whole points
+whole : (l : Layout) (packed : List ℕ) → captured l packed ≡ true → length packed ≡ l .bytes * pointsIn l packed
+whole l packed c =
+    let n = length packed in
+    let b = l .bytes in
+    let r = eqb-true (n % b) 0 (and-left (eqb (n % b) 0) (leb (n / b) 4096) c) in
+    let d = div-add-mod n b in
+    omega (arith, r, d)
+
 -- ---- the whole
 
 module _ (a : Asked) where
@@ -233,19 +246,26 @@ module _ (a : Asked) where
             ∙ ap (λ (t : Bool). cond (not t) (a .values) (valuesOf (f .layout) (a .packed))) d,
       )
 
-  decoding-right : DecodingRight a s
-  decoding-right =
+  all-decoded : (g : Facts) → readingOf s ≡ Shown g → captured (f .layout) (a .packed) ≡ true → length (a .values) ≡ 3 * pointsIn (f .layout) (a .packed)
+      → (decodingOf s ≡ Points (pointsIn (f .layout) (a .packed))) × (valuesAfter s ≡ valuesOf (f .layout) (a .packed))
+  all-decoded g h c n = decoded-by g h true (ap₂ _&&_ c (eq-eqb (length (a .values)) (3 * pointsIn (f .layout) (a .packed)) n))
+
+  decoding-right : validLayout (f .layout) ≡ true → DecodingRight a s
+  decoding-right v =
       record {
-        decoded = λ g h c n. decoded-by g h true (ap₂ _&&_ c (eq-eqb (length (a .values)) (3 * pointsIn (f .layout) (a .packed)) n));
+        decoded = all-decoded;
+        floats = λ g h c n b k m.
+            decodes-each-code (f .layout) (pointsIn (f .layout) (a .packed)) (a .packed) record { valid = v; bytes = b; points = whole (f .layout) (a .packed) c } .1 k m
+            ∙ ap (λ (vs : List Float). named (kindOf (f .layout .model) (k % 3)) (getD vs k nan)) (sym (all-decoded g h c n .1));
         misfit = λ g h n. decoded-by g h false (ap (λ (t : Bool). captured (f .layout) (a .packed) && t) n ∙ and-false (captured (f .layout) (a .packed)));
       }
 
-  pub book-means : Meaning a (book a)
+  pub book-means : validLayout (f .layout) ≡ true → Meaning a (book a)
   unfolding book
-  book-means =
+  book-means v =
       record {
         written = (refl, refl);
         rewrites = each-right f (startOf (a .first) f) (a .rewrites) (a .last) (a .packed) (a .values);
         reading = reading-right;
-        decoding = decoding-right;
+        decoding = decoding-right v;
       }

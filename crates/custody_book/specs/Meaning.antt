@@ -1,14 +1,18 @@
 -- Demand 3, sentence by sentence, of what is to be seen of one card. Assumes nothing.
-use Prim.Native.Nat.{ℕ, _*_}
+use Prim.Native.Nat.{ℕ, _*_, _%_, _<_}
 use mathlib.Core.Bool.{Bool, true, false, cond, _&&_, _||_}
 use mathlib.Core.Path.{_≡_}
 use mathlib.Core.List.{List, [], _∷_}
 use lib.Dec.{eqb}
-use lib.Ieee.{Float}
-use lib.ListN.{length}
+use lib.Ieee.{Float, nan}
+use lib.ListN.{length, getD}
+use Rattle.lists.specs.Bytes.{areBytes}
 use Rattle.layout.specs.declared.Layout.{Layout}
+use Rattle.layout.specs.Layout.{kindOf}
+use Rattle.quantization.specs.Answer.{named, dequantized}
 use Rattle.line.specs.declared.LineAnswer.{LineAnswer}
 use Rattle.line.specs.declared.LineAnswer.the-variants.{Points, Refused as LineRefused}
+use Rattle.line.specs.Line.{codeAt}
 use Rattle.decoding.specs.Decode.{valuesOf}
 use Rattle.card_table.specs.declared.facts.Facts.{Facts}
 use Rattle.card_table.specs.Facts.{closed}
@@ -100,6 +104,10 @@ pub record DecodingRight (a : Asked) (s : Story) : Type 0 where
   -- a captured line, into three floats a point: the count of points, and the floats of its codes by the layout first given
   pub decoded : (g : Facts) → readingOf s ≡ Shown g → captured (a .facts .layout) (a .packed) ≡ true → length (a .values) ≡ 3 * pointsIn (a .facts .layout) (a .packed)
       → (decodingOf s ≡ Points (pointsIn (a .facts .layout) (a .packed))) × (valuesAfter s ≡ valuesOf (a .facts .layout) (a .packed))
+  -- these are the very floats of one value: what dequantizing code k answers, under the name of its kind
+  pub floats : (g : Facts) → readingOf s ≡ Shown g → captured (a .facts .layout) (a .packed) ≡ true → length (a .values) ≡ 3 * pointsIn (a .facts .layout) (a .packed)
+      → areBytes (a .packed) ≡ true → (k : ℕ) → k < 3 * pointsIn (a .facts .layout) (a .packed) → let l = a .facts .layout in
+      dequantized (l .model) (l .range) (l .depth) (k % 3) (codeAt l (a .packed) k) ≡ named (kindOf (l .model) (k % 3)) (getD (valuesAfter s) k nan)
   -- into a line of any other length: 13, and nothing is changed
   pub misfit : (g : Facts) → readingOf s ≡ Shown g → eqb (length (a .values)) (3 * pointsIn (a .facts .layout) (a .packed)) ≡ false
       → (decodingOf s ≡ LineRefused 13) × (valuesAfter s ≡ a .values)

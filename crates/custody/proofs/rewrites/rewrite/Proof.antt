@@ -1,5 +1,6 @@
 -- `custody::rewrites::rewrite` meets its contract, by what the rewrite answered. Assumes nothing.
 use mathlib.Core.Path.{sym, _∙_}
+use native.Mathlib.Omega.{arith}
 use denote.Ref.{now}
 use Rattle.custody.proofs.OneRewrite.{rewrite-done, left-refused, left-done}
 use borrow.Author.Needs.{needs}
@@ -18,10 +19,9 @@ enum-told c = search needs
 store-requires : tie.Need-store-requires
 store-requires c κs =
     let w = c .before .before .before .before .before .before in
-    let a = w .before .before .before .before .before .args in
-    w .rewrite .kept .1 .1 .0
-    ∙ rewrite-done (now (a .card)) (a .edition) _ (sym (w .rewrite .ensures .0) ∙ c .before .before .enum-told .given .1)
-    ∙ sym (w .before .before .before .before .before .pre)
+    let s = w .before .before .before .before .before in
+    let a = s .args in
+    omega (arith, w .rewrite .kept .1 .1 .0, rewrite-done (now (a .card)) (a .edition) _ (sym (w .rewrite .ensures .0) ∙ c .before .before .enum-told .given .1), s .pre)
 
 same-length : tie.Need-same-length
 same-length c = search needs
