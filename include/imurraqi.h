@@ -76,6 +76,31 @@ int64_t imurraqi_ycbcr_to_rgb(uint8_t primaries, uint8_t depth,
                               const uint16_t *codes, size_t len, uint16_t *out,
                               size_t out_len);
 
+/* What a card shows at an edition, 1 or 2. Answers 0. Refused: 1, 7, 9 where
+ * byte 0 is 0, 8, 9 for bytes 1 to 23 and a byte 0 that is not the layout's, 10,
+ * 9 for bytes 24 to 31.
+ * layout: the eight bytes of its layout. facts: width, height, item, access
+ * (0 closed, 1 community, 2 open). */
+int64_t imurraqi_card_read(const uint8_t *card, size_t len, uint8_t edition,
+                           uint8_t layout[8], uint64_t facts[4]);
+
+/* Writes the card of a layout, a size, an item and an access at an edition, 32
+ * bytes. Answers 0. Refused: 7, 9, 11, 13. */
+int64_t imurraqi_card_write(uint8_t edition, const uint8_t layout[8],
+                            uint16_t width, uint16_t height, uint64_t item,
+                            uint8_t access, uint8_t *out, size_t out_len);
+
+/* Reads a card at an edition and writes what it shows at the same edition to
+ * another 32 bytes. Answers 0. Refused: as imurraqi_card_read, then 13. */
+int64_t imurraqi_card_rewrite(const uint8_t *card, size_t len, uint8_t edition,
+                              uint8_t *out, size_t out_len);
+
+/* The index, from 0, of the first card of a stack that the edition reads and
+ * that has the item's number: its bytes begin at stack + 32 * index. Cards that
+ * are refused are passed over. Refused: 1, 7, 15. */
+int64_t imurraqi_stack_find(const uint8_t *stack, size_t len, uint8_t edition,
+                            uint64_t item);
+
 #ifdef __cplusplus
 }
 #endif

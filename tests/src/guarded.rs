@@ -30,6 +30,13 @@ impl Element for u16 {
     }
 }
 
+/// Numbers above every size and access, with bits in all bytes.
+impl Element for u64 {
+    fn at(place: usize) -> u64 {
+        0xa5c3_0f96_5a3c_f000 | place as u64
+    }
+}
+
 impl<T: Element> Guarded<T> {
     const GUARD: usize = GUARD_BYTES / size_of::<T>();
 

@@ -2,6 +2,12 @@
 
 use crate::guarded::Guarded;
 
+use self::card::{CardRead, CardRewrite, CardWrite, StackFind};
+use self::program::StackList;
+
+pub mod card;
+pub mod program;
+
 /// Model, range, depth and channel, in this order.
 pub type Setting = [u8; 4];
 
@@ -31,8 +37,8 @@ pub type Slot = [u32; 5];
 /// The place of the float in its slot.
 pub const FLOAT: usize = 2;
 
-/// The functions of the C interface. Being plain functions, they can be the
-/// library's own or, to try the tests themselves, those of a wrong program.
+/// The functions of the C interface, and the list. Being plain functions, they can
+/// be the library's own or, to try the tests themselves, those of a wrong program.
 #[derive(Clone, Copy)]
 pub struct Library {
     pub dequantize: fn(Setting, u16, &mut Slot) -> i64,
@@ -47,6 +53,12 @@ pub struct Library {
     /// These two are told which of them is meant, so that one program can be both.
     pub rgb_to_ycbcr: Convert,
     pub ycbcr_to_rgb: Convert,
+    pub card_read: CardRead,
+    pub card_write: CardWrite,
+    pub card_rewrite: CardRewrite,
+    pub stack_find: StackFind,
+    /// The list is a program of its own.
+    pub stack_list: StackList,
 }
 
 impl Library {
@@ -77,6 +89,11 @@ pub const LINKED: Library = Library {
     descriptor_write,
     rgb_to_ycbcr: convert,
     ycbcr_to_rgb: convert,
+    card_read: card::card_read,
+    card_write: card::card_write,
+    card_rewrite: card::card_rewrite,
+    stack_find: card::stack_find,
+    stack_list: program::stack_list,
 };
 
 extern "C" {

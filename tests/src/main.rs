@@ -8,6 +8,7 @@ use crate::library::LINKED;
 use crate::part::Part;
 use crate::tally::Tally;
 
+mod card;
 mod color;
 mod descriptor;
 mod exhaustive;
@@ -15,11 +16,13 @@ mod guarded;
 mod layouts;
 mod library;
 mod lines;
+mod list;
 mod part;
 mod plain;
 mod quantization;
 mod random;
 mod self_check;
+mod stack;
 mod tally;
 mod wrong;
 

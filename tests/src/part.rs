@@ -1,10 +1,13 @@
 //! A part of the tests.
 
+use crate::card;
 use crate::color;
 use crate::descriptor;
 use crate::library::Library;
 use crate::lines;
+use crate::list;
 use crate::quantization;
+use crate::stack;
 use crate::tally::{Flow, Tally};
 
 pub struct Part {
@@ -16,13 +19,16 @@ pub const fn part(name: &'static str, run: fn(&Library, &mut Tally) -> Flow) -> 
     Part { name, run }
 }
 
-/// Every part that tries a library, subject after subject.
+/// Every part that tries the library or the program, subject after subject.
 pub fn library_parts() -> impl Iterator<Item = &'static Part> {
     [
         quantization::PARTS,
         lines::PARTS,
         descriptor::PARTS,
         color::PARTS,
+        card::PARTS,
+        stack::PARTS,
+        list::PARTS,
     ]
     .into_iter()
     .flatten()

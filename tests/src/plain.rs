@@ -1,14 +1,17 @@
 //! A plain program, which knows nothing of the reference's numbers: values in
 //! float arithmetic, points bit by bit, descriptors byte by byte, colors over one
-//! denominator. Its pieces can be exchanged for wrong ones.
+//! denominator, cards row by row, stacks from their end. Its pieces can be
+//! exchanged for wrong ones.
 
 use crate::library::{Convert, Library};
 
+pub mod card;
 pub mod color;
 pub mod descriptor;
 pub mod layout;
 pub mod lines;
 pub mod quantization;
+pub mod stack;
 
 use self::quantization::{divided, half_up, line, rounded};
 
@@ -35,6 +38,22 @@ pub const PLAIN: Library = Library {
     },
     rgb_to_ycbcr: CONVERT,
     ycbcr_to_rgb: CONVERT,
+    card_read: |card, edition, told| card::read(card, edition, told, &card::READING, card::shown),
+    card_write: |edition, facts, out| {
+        card::written(edition, facts, out, &card::WRITING, card::least)
+    },
+    card_rewrite: |card, edition, out| {
+        card::rewritten(card, edition, out, &card::READING, card::shown)
+    },
+    stack_find: stack::found,
+    stack_list: |pieces| {
+        stack::listed(
+            pieces,
+            stack::WORDS,
+            |width, height| [width, height],
+            |item| item,
+        )
+    },
 };
 
 const CONVERT: Convert = |direction, conversion, codes, out| {

@@ -1,16 +1,29 @@
 //! Programs with one mistake each, which the tests must catch, made from two
 //! right programs, which the tests must pass.
 
+use crate::card::{
+    self as cards, expected_read as expected_card_read, expected_rewrite,
+    expected_write as expected_card_write,
+};
 use crate::color::{self as colors, expected_convert};
 use crate::descriptor::{self as descriptors, expected_read, expected_write};
 use crate::library::Library;
 use crate::lines::{
     self, expected_encode_line, expected_encode_point, expected_pack_line, expected_unpack_line,
 };
+use crate::list::{self as lists, EXPECTED_LIST};
 use crate::part::Part;
 use crate::plain::PLAIN;
 use crate::quantization::{self as values, expected_dequantize, expected_quantize};
+use crate::stack::{self as stacks, expected_find};
 
+mod card_access;
+mod card_read;
+mod card_read_refusals;
+mod card_reads;
+mod card_rewrite;
+mod card_write;
+mod card_write_refusals;
 mod color;
 mod color_formulas;
 mod color_lines;
@@ -19,9 +32,12 @@ mod color_refusals;
 mod converts;
 mod descriptor;
 mod encode;
+mod list;
 mod pack;
 mod points;
 mod quantization;
+mod stack;
+mod stack_refusals;
 mod unpack;
 
 /// A mistake, and the program that makes it.
@@ -38,6 +54,11 @@ pub const REFERENCE: Library = Library {
     descriptor_write: expected_write,
     rgb_to_ycbcr: expected_convert,
     ycbcr_to_rgb: expected_convert,
+    card_read: expected_card_read,
+    card_write: expected_card_write,
+    card_rewrite: expected_rewrite,
+    stack_find: expected_find,
+    stack_list: EXPECTED_LIST,
 };
 
 pub const RIGHT: &[Library] = &[REFERENCE, PLAIN];
@@ -54,4 +75,13 @@ pub const WRONG: &[(&[Part], &[Wrong])] = &[
     (colors::PARTS, color_reckoning::WRONG),
     (colors::PARTS, color_lines::WRONG),
     (colors::PARTS, color_refusals::WRONG),
+    (cards::PARTS, card_access::WRONG),
+    (cards::PARTS, card_read::WRONG),
+    (cards::PARTS, card_read_refusals::WRONG),
+    (cards::PARTS, card_write::WRONG),
+    (cards::PARTS, card_write_refusals::WRONG),
+    (cards::PARTS, card_rewrite::WRONG),
+    (stacks::PARTS, stack::WRONG),
+    (stacks::PARTS, stack_refusals::WRONG),
+    (lists::PARTS, list::WRONG),
 ];

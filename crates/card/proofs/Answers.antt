@@ -4,35 +4,22 @@ use mathlib.Core.List.{List}
 use Prim.Native.Nat.{ℕ}
 use lib.ListN.{length}
 use Rattle.card_table.specs.declared.facts.Facts.{Facts}
-use Rattle.card_table.specs.Table.{cardBytes}
 use Rattle.card_reader.specs.declared.Reading.{Reading}
 use Rattle.card_reader.specs.declared.Reading.the-variants.{Shown, Refused as NotShown}
 use Rattle.card_reader.specs.Reading.{readCard}
-use Rattle.card_reader.proofs.Shown.{accepted}
 use Rattle.card_writer.specs.declared.Writing.{Writing}
 use Rattle.card_writer.specs.declared.Writing.the-variants.{Refused}
-use Rattle.card_writer.specs.Writing.{kept, writeAnswer, writeOutput}
-use Rattle.card.specs.Rewriting.{thenWrite, rewriteAnswer, rewriteOutput}
+use Rattle.card_writer.specs.Writing.{writeAnswer, writeOutput}
+use Rattle.card.specs.Rewriting.{thenWrite, thenOutput, rewriteAnswer, rewriteOutput}
 
 module _ (b : List ℕ) (e : ℕ) (out : List ℕ) where
-  unchanged : (n : ℕ) {w : Writing} (after : List ℕ) → Refused n ≡ w → out ≡ kept w out after
-  unchanged n after a = ap (λ (w : Writing). kept w out after) a
-
   -- nothing was shown
   pub refused : (n : ℕ) → readCard b e ≡ NotShown n → (Refused n ≡ rewriteAnswer b e (length out)) × (out ≡ rewriteOutput b e out)
   unfolding rewriteAnswer rewriteOutput
-  refused n h =
-      let a = sym (ap (λ (r : Reading). thenWrite r e (length out)) h) in
-      (a, unchanged n _ a)
+  refused n h = (sym (ap (λ (r : Reading). thenWrite r e (length out)) h), sym (ap (λ (r : Reading). thenOutput r e out) h))
 
   -- facts were shown, and then written
   pub written : (f : Facts) (answer : Writing) (last : List ℕ) → readCard b e ≡ Shown f → answer ≡ writeAnswer e f (length out) → last ≡ writeOutput e f out
       → (answer ≡ rewriteAnswer b e (length out)) × (last ≡ rewriteOutput b e out)
-  unfolding rewriteAnswer rewriteOutput writeOutput
-  written f answer last h a m =
-      let w = sym (ap (λ (r : Reading). thenWrite r e (length out)) h) in (
-        a ∙ w,
-        m
-            ∙ ap (λ (v : Writing). kept v out (cardBytes e f)) w
-            ∙ ap (λ (g : Facts). kept (thenWrite (readCard b e) e (length out)) out (cardBytes e g)) (sym (accepted b e f h .is)),
-      )
+  unfolding rewriteAnswer rewriteOutput
+  written f answer last h a m = (a ∙ sym (ap (λ (r : Reading). thenWrite r e (length out)) h), m ∙ sym (ap (λ (r : Reading). thenOutput r e out) h))

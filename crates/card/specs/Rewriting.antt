@@ -1,14 +1,12 @@
 -- Document 01, "Card": a rewrite at an edition is a reading at that edition followed by a writing at it. Assumes nothing.
 use Prim.Native.Nat.{ℕ}
 use mathlib.Core.List.{List}
-use lib.ListN.{length}
 use Rattle.card_reader.specs.declared.Reading.{Reading}
 use Rattle.card_reader.specs.declared.Reading.the-variants.{Shown, Refused as NotShown}
 use Rattle.card_writer.specs.declared.Writing.{Writing}
 use Rattle.card_writer.specs.declared.Writing.the-variants.{Refused}
-use Rattle.card_table.specs.Table.{cardBytes}
-use Rattle.card_reader.specs.Reading.{factsIn, readCard}
-use Rattle.card_writer.specs.Writing.{writeAnswer, kept}
+use Rattle.card_reader.specs.Reading.{readCard}
+use Rattle.card_writer.specs.Writing.{writeAnswer, writeOutput}
 
 -- the answer after a reading: its number, or what writing the facts that it shows answers
 abbrev pub thenWrite : Reading → ℕ → ℕ → Writing
@@ -19,6 +17,11 @@ thenWrite (Shown f) e bytes = writeAnswer e f bytes
 unfoldable pub rewriteAnswer : List ℕ → ℕ → ℕ → Writing
 rewriteAnswer b e bytes = thenWrite (readCard b e) e bytes
 
--- the output after rewriting: the card of the facts that are shown
+-- the output after a reading: as before, or what writing the facts that it shows leaves there
+abbrev pub thenOutput : Reading → ℕ → List ℕ → List ℕ
+thenOutput (NotShown k) e before = before
+thenOutput (Shown f) e before = writeOutput e f before
+
+-- the output after rewriting
 unfoldable pub rewriteOutput : List ℕ → ℕ → List ℕ → List ℕ
-rewriteOutput b e before = kept (rewriteAnswer b e (length before)) before (cardBytes e (factsIn b e))
+rewriteOutput b e before = thenOutput (readCard b e) e before

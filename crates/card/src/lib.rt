@@ -1,4 +1,4 @@
-// The card: 32 bytes that hold the facts of an item, read and written at an edition (document 01, "Card").
+// The card: 32 bytes that hold the facts of an item, read and written at an edition, and found in a stack (document 01, "Card").
 ghost use mathlib.Core.Path.{_≡_};
 ghost use lib.ListN.{length};
 ghost use Rattle.card.specs.Rewriting.{rewriteAnswer, rewriteOutput};
@@ -8,6 +8,9 @@ pub use card_table::Card;
 pub use card_table::Facts;
 pub use card_writer::Writing;
 pub use card_writer::write;
+pub use stack::Found;
+pub use stack::find;
+pub use stack::locate;
 
 // Reads a card at an edition and writes what it shows at the same. Refused: as reading is, then 13; `out` is then as it was.
 pub fn rewrite(bytes: &[u8], edition: u8, out: &mut [u8]) -> Writing

@@ -1,10 +1,11 @@
 -- What is shown of any bytes. Assumes nothing.
 use mathlib.Core.Path.{_≡_, refl, sym, ap, _∙_, subst}
 use mathlib.Core.Bool.{Bool, true, false, not, cond, _&&_, _||_, and-false}
+use mathlib.Core.Logic.{_⊎_, inl, inr, ⊎-elim}
 use mathlib.Core.List.{List}
 use Prim.Native.Nat.{ℕ, _≤_}
 use native.Mathlib.Omega.{arith}
-use borrow.Author.Tests.{eqb-true}
+use borrow.Author.Tests.{eqb-true, leb-true}
 use lib.Dec.{eqb, leb, ltb}
 use lib.ListN.{getD}
 use Rattle.lists.proofs.Tests.{and3}
@@ -34,6 +35,17 @@ unseen w x e h = rw (h, and-false (hasAccess w))
 unsaid : (w x e : ℕ) → hasAccess w ≡ false → accessOf w x e ≡ closed
 unfolding accessOf
 unsaid w x e h = rw h
+
+-- else as it stands
+stands : (w x e : ℕ) → (accessOf w x e ≡ closed) ⊎ ((accessOf w x e ≡ x) × (2 ≤ e) × (2 ≤ w))
+unfolding accessOf
+stands w x e = go (hasAccess w) (hasAccess e) (accessKnown x) refl refl
+  where
+    go : (t u k : Bool) → hasAccess w ≡ t → hasAccess e ≡ u → (cond (t && u && k) x closed ≡ closed) ⊎ ((cond (t && u && k) x closed ≡ x) × (2 ≤ e) × (2 ≤ w))
+    go true true true p q = inr (refl, leb-true 2 e q, leb-true 2 w p)
+    go true true false p q = inl refl
+    go true false k p q = inl refl
+    go false u k p q = inl refl
 
 silent : (w x e : ℕ) → not (hasAccess e) && not (eqb (accessOf w x e) closed) ≡ false
 silent w x e = go (hasAccess e) refl
@@ -73,6 +85,9 @@ module _ (b : List ℕ) (e : ℕ) (f : Facts) (a : Accepted b e f) where
 
   pub never-more : f .access ≤ getD b 24 0
   never-more = subst (λ (x : ℕ). x ≤ getD b 24 0) (sym access-is) (at-most (writerOf b) (getD b 24 0) e)
+
+  pub as-it-stands : (f .access ≡ closed) ⊎ ((f .access ≡ getD b 24 0) × (2 ≤ e) × (2 ≤ writerOf b))
+  as-it-stands = ⊎-elim (λ p. inl (access-is ∙ p)) (λ p. inr (access-is ∙ p .0, p .1, p .2)) (stands (writerOf b) (getD b 24 0) e)
 
   pub closed-to : hasAccess e ≡ false → f .access ≡ closed
   closed-to h = access-is ∙ unseen (writerOf b) (getD b 24 0) e h

@@ -7,20 +7,26 @@ use native.Mathlib.Omega.{arith}
 use borrow.Author.Tests.{eq-eqb, not-false}
 use lib.Dec.{eqb}
 use lib.ListN.{length}
+use Rattle.lists.specs.Bytes.{bytesOf}
 use Rattle.lists.proofs.Tests.{pass}
 use Rattle.card_table.specs.Edition.{editionKnown, hasAccess}
 use Rattle.card_table.specs.Facts.{factsValid}
 use Rattle.card_table.specs.Table.{cardSize, cardBytes}
+use Rattle.card_reader.specs.declared.Reading.{Reading}
+use Rattle.card_reader.specs.declared.Reading.the-variants.{Shown, Refused as NotShown}
 use Rattle.card_reader.specs.Reading.{readCard}
 use Rattle.card_reader.proofs.Shown.{accepted}
 use Rattle.card_writer.specs.declared.Writing.{Writing}
 use Rattle.card_writer.specs.declared.Writing.the-variants.{Done, Refused}
-use Rattle.card_writer.specs.Writing.{unwritable, validAt, writeAnswer}
+use Rattle.card_writer.specs.Writing.{unwritable, validAt, writeAnswer, kept, writeOutput}
+use Rattle.card.specs.Rewriting.{thenWrite, thenOutput, rewriteAnswer, rewriteOutput}
 use Rattle.card_writer.proofs.Answers.{changed}
-use Rattle.card_laws.specs.Claims.{ShowsWhatWasWritten, WritesValidFacts, WritesNoOther, ReadsWhatWasWritten, ShowsValidFacts, NeverMoreOpen, ClosedToEdition1, ClosedFromEdition1, RewritesInOrder, RewritesWhatWasShown, NeverOpens}
+use Rattle.card_laws.specs.Claims.{ShowsWhatWasWritten, WritesValidFacts, WritesNoOther, ReadsWhatWasWritten, ShowsValidFacts, NeverMoreOpen, ClosedOrAsItStands, ShowsNoOther, ShowsLaterCards, WritesNothingRefused, RewritesNothingRefused, ClosedToEdition1, ClosedFromEdition1, RewritesInOrder, RewritesWhatWasShown, NeverOpens}
 use Rattle.card_laws.proofs.Valid.{at, write-valid}
 use Rattle.card_laws.proofs.Written.{read-card}
-use Rattle.card_laws.proofs.Any.{valid-shown, never-more, closed-to, closed-from}
+use Rattle.card_laws.proofs.Any.{valid-shown, never-more, as-it-stands, closed-to, closed-from}
+use Rattle.card_laws.proofs.NoOther.{no-other}
+use Rattle.card_laws.proofs.Later.{later-shown}
 use Rattle.card_laws.proofs.Rewritten.{rewrite-order, result-shows, never-opens}
 
 -- a row that did not apply
@@ -55,6 +61,28 @@ shows-valid-facts b e f h = valid-shown b e f (accepted b e f h)
 
 pub never-more-open : NeverMoreOpen
 never-more-open b e f h = never-more b e f (accepted b e f h)
+
+pub closed-or-as-it-stands : ClosedOrAsItStands
+closed-or-as-it-stands b e f h = as-it-stands b e f (accepted b e f h)
+
+pub shows-no-other : ShowsNoOther
+shows-no-other b e f y h l = no-other b e f y (accepted b e f h) l
+
+pub shows-later-cards : ShowsLaterCards
+unfolding cardBytes bytesOf
+shows-later-cards w e f others v n k l m = later-shown w e f others v n k l m
+
+pub writes-nothing-refused : WritesNothingRefused
+unfolding writeOutput
+writes-nothing-refused e f out k h = ap (λ (w : Writing). kept w out (cardBytes e f)) h
+
+pub rewrites-nothing-refused : RewritesNothingRefused
+unfolding rewriteAnswer rewriteOutput
+rewrites-nothing-refused b e out k h = go (readCard b e) h
+  where
+    go : (r : Reading) → thenWrite r e (length out) ≡ Refused k → thenOutput r e out ≡ out
+    go (NotShown n) q = refl
+    go (Shown f) q = writes-nothing-refused e f out k q
 
 pub closed-to-edition-1 : ClosedToEdition1
 closed-to-edition-1 b f h = closed-to b 1 f (accepted b 1 f h) refl

@@ -12,7 +12,7 @@ use Rattle.card_table.specs.Edition.{editionKnown, hasAccess, leastEdition}
 use Rattle.card_table.specs.Facts.{closed, accessKnown}
 use Rattle.card_reader.specs.Reading.{writerOf, accessOf, tableHolds, accessUnknown, endWrong}
 use Rattle.card_writer.specs.Writing.{unwritable}
-use Rattle.card_laws.specs.Printed.{Row7, Row9, Row10, Row11, Access}
+use Rattle.card_laws.specs.Printed.{Row7, Row9OfTheEnd, Row10, Row11, AccessShown}
 
 -- ---- tests of numbers
 
@@ -102,13 +102,13 @@ row-11 e f =
     at-2 true = refl
     at-2 false = refl
 
-pub row-9 : Row9
+pub row-9-of-the-end : Row9OfTheEnd
 unfolding endWrong
-row-9 b e k h = λ i. at-one (writerOf b) h i && not (eqb (numberAt b 24 8) 0) || holds (writerOf b) e k i && not (eqb (numberAt b 25 7) 0)
+row-9-of-the-end b e k h = λ i. at-one (writerOf b) h i && not (eqb (numberAt b 24 8) 0) || holds (writerOf b) e k i && not (eqb (numberAt b 25 7) 0)
 
-pub access : Access
+pub access-shown : AccessShown
 unfolding accessOf
-access w a e k h = by-edition (λ e. cond (hasAccess w && hasAccess e && accessKnown a) a closed ≡ cond (eqb w 1 || eqb e 1) closed (cond (leb a 2) a closed)) (at-1 (hasAccess w) (eqb w 1)) at-2 e k
+access-shown w a e k h = by-edition (λ e. cond (hasAccess w && hasAccess e && accessKnown a) a closed ≡ cond (eqb w 1 || eqb e 1) closed (cond (leb a 2) a closed)) (at-1 (hasAccess w) (eqb w 1)) at-2 e k
   where
     at-1 : (t u : Bool) → cond (t && false && accessKnown a) a closed ≡ cond (u || true) closed (cond (leb a 2) a closed)
     at-1 true true = refl

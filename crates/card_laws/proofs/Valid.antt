@@ -15,7 +15,7 @@ use Rattle.card_table.specs.Table.{cardSize}
 use Rattle.card_writer.specs.declared.Writing.the-variants.{Done, Refused}
 use Rattle.card_writer.specs.Writing.{unwritable, validAt, writeAnswer}
 
-or-left : (a b : Bool) → a || b ≡ false → a ≡ false
+pub or-left : (a b : Bool) → a || b ≡ false → a ≡ false
 or-left true b h = h
 or-left false b h = refl
 

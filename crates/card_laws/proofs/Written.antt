@@ -37,15 +37,15 @@ access-fits a false k = refl
 
 -- what the bytes of a card hold
 module _ (e : ℕ) (f : Facts) (z : Sizes f) where
-  width-is : numberAt (cardBytes e f) 12 2 ≡ f .width
+  pub width-is : numberAt (cardBytes e f) 12 2 ≡ f .width
   unfolding cardBytes bytesOf
   width-is = number-is (cardBytes e f) 12 2 (omega (arith, length-card e f)) ∙ little-bytesOf (f .width) 2 (z .width)
 
-  height-is : numberAt (cardBytes e f) 14 2 ≡ f .height
+  pub height-is : numberAt (cardBytes e f) 14 2 ≡ f .height
   unfolding cardBytes bytesOf
   height-is = number-is (cardBytes e f) 14 2 (omega (arith, length-card e f)) ∙ little-bytesOf (f .height) 2 (z .height)
 
-  item-is : numberAt (cardBytes e f) 16 8 ≡ f .item
+  pub item-is : numberAt (cardBytes e f) 16 8 ≡ f .item
   unfolding cardBytes bytesOf
   item-is = number-is (cardBytes e f) 16 8 (omega (arith, length-card e f)) ∙ little-bytesOf (f .item) 8 (z .item)
 

@@ -1,15 +1,16 @@
 -- What is claimed of cards, of the definitions that the contracts of `card_reader::read`, `card_writer::write` and `card::rewrite` cite. proofs/Claims.antt proves each. Assumes nothing.
-use Prim.Native.Nat.{ℕ, _≤_}
-use mathlib.Core.Bool.{true, not, cond}
+use Prim.Native.Nat.{ℕ, _≤_, _<_}
+use mathlib.Core.Bool.{true, not, cond, _&&_}
 use mathlib.Core.Path.{_≡_}
 use mathlib.Core.Logic.{_⊎_}
-use mathlib.Core.List.{List}
+use mathlib.Core.List.{List, _++_}
 use lib.Dec.{eqb, ltb}
-use lib.ListN.{length, getD}
+use lib.ListN.{length, getD, take}
+use Rattle.lists.specs.Bytes.{areBytes}
 use Rattle.layout.specs.Refusal.{unknownEdition, laterEdition, wrongLineOrOutput}
 use Rattle.card_table.specs.declared.facts.Facts.{Facts}
 use Rattle.card_table.specs.Edition.{editionKnown, hasAccess, leastEdition}
-use Rattle.card_table.specs.Facts.{closed, withAccess}
+use Rattle.card_table.specs.Facts.{closed, accessKnown, factsValid, withAccess}
 use Rattle.card_table.specs.Table.{cardSize, cardBytes}
 use Rattle.card_reader.specs.declared.Reading.{Reading}
 use Rattle.card_reader.specs.declared.Reading.the-variants.{Shown, Refused as NotShown}
@@ -54,6 +55,11 @@ ShowsValidFacts = (b : List ℕ) (e : ℕ) (f : Facts) → readCard b e ≡ Show
 abbrev pub NeverMoreOpen : Type 0
 NeverMoreOpen = (b : List ℕ) (e : ℕ) (f : Facts) → readCard b e ≡ Shown f → f .access ≤ getD b 24 0
 
+-- it is closed, or byte 24 as it stands; that only where the reader and the writer have access (the caution on every card: silent is closed)
+abbrev pub ClosedOrAsItStands : Type 0
+ClosedOrAsItStands =
+    (b : List ℕ) (e : ℕ) (f : Facts) → readCard b e ≡ Shown f → (f .access ≡ closed) ⊎ ((f .access ≡ getD b 24 0) × (2 ≤ e) × (2 ≤ getD b 1 0))
+
 -- it is closed where the reader is at 1
 abbrev pub ClosedToEdition1 : Type 0
 ClosedToEdition1 = (b : List ℕ) (f : Facts) → readCard b 1 ≡ Shown f → f .access ≡ closed
@@ -61,6 +67,24 @@ ClosedToEdition1 = (b : List ℕ) (f : Facts) → readCard b 1 ≡ Shown f → f
 -- and where the writer was
 abbrev pub ClosedFromEdition1 : Type 0
 ClosedFromEdition1 = (b : List ℕ) (e : ℕ) (f : Facts) → readCard b e ≡ Shown f → getD b 1 0 ≡ 1 → f .access ≡ closed
+
+-- bytes that are shown, and were not written later than they are read, are the table's card of what they show: no others are accepted
+abbrev pub ShowsNoOther : Type 0
+ShowsNoOther = (b : List ℕ) (e : ℕ) (f : Facts) → areBytes b ≡ true → readCard b e ≡ Shown f → getD b 1 0 ≤ e → b ≡ cardBytes (getD b 1 0) f
+
+-- a card that was written later is shown if bytes 0 to 23 are the table's, whatever the others are: byte 24 is its access if the reader has that number, and else it is closed
+abbrev pub ShowsLaterCards : Type 0
+ShowsLaterCards =
+    (w e : ℕ) (f : Facts) (others : List ℕ) → factsValid f ≡ true → length others ≡ 8 → editionKnown e ≡ true → leastEdition (f .layout) ≤ e → e < w
+    → readCard (take 24 (cardBytes w f) ++ others) e ≡ Shown (withAccess f (cond (hasAccess e && accessKnown (getD others 0 0)) (getD others 0 0) closed))
+
+-- ---- a refusal leaves the output as it was
+
+abbrev pub WritesNothingRefused : Type 0
+WritesNothingRefused = (e : ℕ) (f : Facts) (out : List ℕ) (k : ℕ) → writeAnswer e f (length out) ≡ Refused k → writeOutput e f out ≡ out
+
+abbrev pub RewritesNothingRefused : Type 0
+RewritesNothingRefused = (b : List ℕ) (e : ℕ) (out : List ℕ) (k : ℕ) → rewriteAnswer b e (length out) ≡ Refused k → rewriteOutput b e out ≡ out
 
 -- ---- a rewrite, of any bytes
 

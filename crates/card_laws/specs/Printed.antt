@@ -23,14 +23,14 @@ Row10 = (writer access e : ℕ) → editionKnown e ≡ true → accessUnknown wr
 abbrev pub Row11 : Type 0
 Row11 = (e : ℕ) (f : Facts) → editionKnown e ≡ true → unwritable e f ≡ eqb e 1 && (eqb (f .layout .depth) 12 || not (eqb (f .access) closed))
 
--- row 9 for bytes 24 to 31: written at 1, all must be zero; written at 2 and read at 2, all but the first
-abbrev pub Row9 : Type 0
-Row9 =
+-- row 9 for bytes 24 to 31, which are looked at only where 1 ≤ byte 0 ≤ byte 1: written at 1, all must be zero; written at 2 and read at 2, all but the first
+abbrev pub Row9OfTheEnd : Type 0
+Row9OfTheEnd =
     (b : List ℕ) (e : ℕ) → editionKnown e ≡ true → 1 ≤ writerOf b
     → endWrong b e ≡ eqb (writerOf b) 1 && not (eqb (numberAt b 24 8) 0) || eqb (writerOf b) 2 && eqb e 2 && not (eqb (numberAt b 25 7) 0)
 
--- access: closed where the card was written at 1 or is read at 1; else 0, 1, 2 as they stand, and any other number closed
-abbrev pub Access : Type 0
-Access =
+-- the access that is shown, likewise: closed where the card was written at 1 or is read at 1; else 0, 1, 2 as they stand, and any other number closed
+abbrev pub AccessShown : Type 0
+AccessShown =
     (writer access e : ℕ) → editionKnown e ≡ true → 1 ≤ writer
     → accessOf writer access e ≡ cond (eqb writer 1 || eqb e 1) closed (cond (leb access 2) access closed)

@@ -4,7 +4,7 @@ use mathlib.Core.Bool.{Bool, true, false, not, cond}
 use mathlib.Core.List.{List}
 use Prim.Native.Nat.{ℕ}
 use native.Mathlib.Omega.{arith}
-use borrow.Author.Tests.{not-false}
+use borrow.Author.Tests.{eqb-true, not-false}
 use lib.Dec.{eqb, ltb}
 use lib.ListN.{length, getD}
 use Rattle.card_table.specs.declared.facts.Facts.{Facts}
@@ -23,9 +23,12 @@ pub same-facts : (g f : Facts) → Shown g ≡ Shown f → g ≡ f
 same-facts g f h = cc
 
 pub record Accepted (b : List ℕ) (e : ℕ) (f : Facts) : Type 0 where
+  pub size : length b ≡ cardSize
   pub edition : editionKnown e ≡ true
   pub readable : ltb e (getD b 0 0) ≡ false
   pub front : frontRight b (factsIn b e) ≡ true
+  pub access : accessUnknown (writerOf b) (getD b 24 0) e ≡ false
+  pub end : endWrong b e ≡ false
   pub is : factsIn b e ≡ f
 
 pub accepted : (b : List ℕ) (e : ℕ) (f : Facts) → readCard b e ≡ Shown f → Accepted b e f
@@ -45,8 +48,11 @@ accepted b e f h =
     let h₇ = passed (accessUnknown (writerOf b) (getD b 24 0) e) 10 r₇ f (h₆ .1) in
     let h₈ = passed (endWrong b e) 9 (Shown (factsIn b e)) f (h₇ .1) in
     record {
+      size = eqb-true (length b) cardSize (not-false (eqb (length b) cardSize) (h₂ .0));
       edition = not-false (editionKnown e) (h₃ .0);
       readable = h₅ .0;
       front = not-false (frontRight b (factsIn b e)) (h₆ .0);
+      access = h₇ .0;
+      end = h₈ .0;
       is = same-facts (factsIn b e) f (h₈ .1);
     }

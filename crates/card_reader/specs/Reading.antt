@@ -64,11 +64,11 @@ frontRight b f =
 abbrev pub tableHolds : ℕ → ℕ → Bool
 tableHolds writer e = hasAccess writer && leb writer e
 
--- then byte 24 is an access
+-- row 10: there byte 24 must be an access, and is none
 unfoldable pub accessUnknown : ℕ → ℕ → ℕ → Bool
 accessUnknown writer access e = tableHolds writer e && not (accessKnown access)
 
--- and bytes 25 to 31 are zero; written at 1, bytes 24 to 31 are, whoever reads; of a card written later than it is read, they are not looked at
+-- row 9 for bytes 24 to 31: not all of those are zero that must be. Written at 1, that is all of them, whoever reads; where the table holds, bytes 25 to 31; of a card written later than it is read, none
 unfoldable pub endWrong : List ℕ → ℕ → Bool
 endWrong b e =
     not (hasAccess (writerOf b)) && not (eqb (numberAt b 24 8) 0)

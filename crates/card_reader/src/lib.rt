@@ -16,7 +16,8 @@ pub enum Reading {
     Refused(u8),
 }
 
-// What a card shows at an edition. Refused: 1, 7, 9 where byte 0 is 0, 8, 9 for bytes 1 to 23, 10, 9 for bytes 24 to 31.
+// What a card shows at an edition. Refused: 1, 7, 9 where byte 0 is 0, 8, 9 for
+// bytes 1 to 23 and a byte 0 that is not the layout's, 10, 9 for bytes 24 to 31.
 pub fn read(bytes: &[u8], edition: u8) -> Reading
     ensures answer { λ r. ⌜ r ≡ readCard (now (bytes .entry)) edition ⌝ }
 {

@@ -12,7 +12,7 @@ newest = 2
 abbrev pub editionKnown : ℕ → Bool
 editionKnown e = leb 1 e && leb e newest
 
--- an edition from 2 on has bytes 24 to 31; to an earlier one every card is closed
+-- an edition from 2 on knows of access; to an earlier one every card is closed
 abbrev pub hasAccess : ℕ → Bool
 hasAccess e = leb 2 e
 

@@ -22,7 +22,7 @@ opened = 2
 abbrev pub accessKnown : ℕ → Bool
 accessKnown access = leb access opened
 
--- the paper has these facts; an item is not zero, and a u64
+-- no field of the facts is outside the paper; an item is not zero, and a u64
 unfoldable pub factsValid : Facts → Bool
 factsValid f =
     validLayout (f .layout)

@@ -13,7 +13,7 @@ pub fn known(edition: u8) -> bool
     (1 <= edition) & (edition <= NEWEST)
 }
 
-// Whether an edition has bytes 24 to 31: access.
+// Whether an edition knows of access.
 pub fn has_access(edition: u8) -> bool
     ensures { λ r. ⌜ r ≡ hasAccess edition ⌝ }
 {

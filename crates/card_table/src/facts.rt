@@ -5,7 +5,7 @@ use crate::access;
 use crate::card::Card;
 use layout::Layout;
 
-// Any numbers make facts; `valid` says whether the paper has them.
+// Any numbers make facts; `valid` says whether all are the paper's.
 pub struct Facts {
     pub layout: Layout,
     pub width: u16,
@@ -22,7 +22,7 @@ fn side_known(side: u16) -> bool
 }
 
 impl Facts {
-    // Whether the paper has these facts. (An item is below 2^64 by its type.)
+    // Whether no field is outside the paper. (An item is below 2^64 by its type.)
     pub fn valid(self) -> bool
         ensures { λ r. ⌜ r ≡ factsValid self ⌝ }
     {

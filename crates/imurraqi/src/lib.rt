@@ -21,8 +21,10 @@ use quantization::Quantized;
 use scanline::LineAnswer;
 use scanline::Point;
 
+mod cards;
+
 // A refusal's number in C.
-fn refused(number: u8) -> i64
+pub(crate) fn refused(number: u8) -> i64
     ensures { λ r. ⌜ r ≡ negℤ (pos number) ⌝ }
 {
     -(number as i64)
@@ -40,7 +42,7 @@ fn line_number(answer: LineAnswer) -> i64
 }
 
 // The layout of eight bytes.
-fn layout_of(bytes: &[u8; 8]) -> Layout
+pub(crate) fn layout_of(bytes: &[u8; 8]) -> Layout
     ensures { λ r. ⌜ r ≡ layoutOf (now (bytes .entry)) ⌝ }
 {
     Layout {
@@ -56,7 +58,7 @@ fn layout_of(bytes: &[u8; 8]) -> Layout
 }
 
 // The eight bytes of a layout.
-fn bytes_of(layout: Layout) -> [u8; 8]
+pub(crate) fn bytes_of(layout: Layout) -> [u8; 8]
     ensures { λ r. ⌜ r ≡ layoutBytes layout ⌝ }
 {
     [

@@ -1,22 +1,17 @@
 //! The program that lists a stack, run with pipes.
 
 use std::io::Write;
-use std::path::Path;
 use std::process::{Command, Stdio};
 use std::thread;
 use std::time::Duration;
 
-pub const PROGRAM: &str = "target/bin/stack_list";
+const PROGRAM: &str = "target/bin/stack_list";
 
 /// What the program prints for a stack, which it is given piece by piece.
 pub type StackList = fn(&[&[u8]]) -> Vec<u8>;
 
 /// Between two pieces, so that the program sees the first one alone.
 const PAUSE: Duration = Duration::from_millis(5);
-
-pub fn is_there() -> bool {
-    Path::new(PROGRAM).exists()
-}
 
 /// What the program prints; other text if it does not end by itself.
 pub fn stack_list(pieces: &[&[u8]]) -> Vec<u8> {
