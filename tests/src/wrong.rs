@@ -7,6 +7,7 @@ use crate::card::{
 };
 use crate::color::{self as colors, expected_convert};
 use crate::descriptor::{self as descriptors, expected_read, expected_write};
+use crate::history as histories;
 use crate::library::Library;
 use crate::lines::{
     self, expected_encode_line, expected_encode_point, expected_pack_line, expected_unpack_line,
@@ -32,6 +33,7 @@ mod color_refusals;
 mod converts;
 mod descriptor;
 mod encode;
+mod history;
 mod list;
 mod pack;
 mod points;
@@ -81,6 +83,7 @@ pub const WRONG: &[(&[Part], &[Wrong])] = &[
     (cards::PARTS, card_write::WRONG),
     (cards::PARTS, card_write_refusals::WRONG),
     (cards::PARTS, card_rewrite::WRONG),
+    (histories::PARTS, history::WRONG),
     (stacks::PARTS, stack::WRONG),
     (stacks::PARTS, stack_refusals::WRONG),
     (lists::PARTS, list::WRONG),
