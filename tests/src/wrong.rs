@@ -5,7 +5,8 @@ use crate::color::{self as colors, expected_convert};
 use crate::descriptor::{self as descriptors, expected_read, expected_write};
 use crate::library::Library;
 use crate::lines::{
-    self, expected_encode_line, expected_encode_point, expected_pack_line, expected_unpack_line,
+    self, expected_decode_line, expected_decode_point, expected_encode_line, expected_encode_point,
+    expected_pack_line, expected_unpack_line,
 };
 use crate::part::Part;
 use crate::plain::PLAIN;
@@ -17,6 +18,7 @@ mod color_lines;
 mod color_reckoning;
 mod color_refusals;
 mod converts;
+mod decode;
 mod descriptor;
 mod encode;
 mod pack;
@@ -32,6 +34,8 @@ pub const REFERENCE: Library = Library {
     quantize: |setting, value| expected_quantize(setting, value.to_bits()),
     unpack_line: expected_unpack_line,
     pack_line: expected_pack_line,
+    decode_line: expected_decode_line,
+    decode_point: expected_decode_point,
     encode_line: expected_encode_line,
     encode_point: expected_encode_point,
     descriptor_read: expected_read,
@@ -47,6 +51,7 @@ pub const WRONG: &[(&[Part], &[Wrong])] = &[
     (values::PARTS, quantization::WRONG),
     (lines::PARTS, unpack::WRONG),
     (lines::PARTS, pack::WRONG),
+    (lines::PARTS, decode::WRONG),
     (lines::PARTS, encode::WRONG),
     (descriptors::PARTS, descriptor::WRONG),
     (colors::PARTS, color::WRONG),
