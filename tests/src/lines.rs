@@ -23,7 +23,10 @@ mod values;
 pub const PARTS: &[Part] = &[
     part("lines, worked out by hand", examples::worked_out),
     part("unpack and pack, there and back", shapes::there_and_back),
-    part("decode and encode, there and back", shapes::decoded_and_back),
+    part(
+        "decode and encode, there and back",
+        shapes::decoded_and_back,
+    ),
     part("lines, short lengths", lengths::short_lines),
     part("decode a point, lengths", lengths::decoded_points),
     part("encode a point, lengths", lengths::points),

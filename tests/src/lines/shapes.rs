@@ -67,10 +67,15 @@ pub fn decoded_and_back(library: &Library, tally: &mut Tally) -> Flow {
             let mut cleared = Outcome::of(packed.len(), |out| {
                 (library.pack_line)(layout, codes.output.output(), out)
             });
-            let mut there = Outcome::of(3 * points, |out| {
+            let there = Outcome::of(3 * points, |out| {
                 (library.decode_line)(layout, &packed, out)
             });
-            let values: Vec<f32> = there.output.output().iter().copied().map(f32::from_bits).collect();
+            let values: Vec<f32> = there
+                .output
+                .elements()
+                .iter()
+                .map(|&bits| f32::from_bits(bits))
+                .collect();
             let mut back = Outcome::of(packed.len(), |out| {
                 (library.encode_line)(layout, &values, out)
             });
@@ -94,7 +99,12 @@ fn compare_all(
     let line = inputs::line(layout, points, random);
     compare_unpack_line(library, tally, layout, &line.packed, 3 * points)?;
     compare_decode_line(library, tally, layout, &line.packed, 3 * points)?;
-    compare_decode_point(library, tally, layout, &line.packed[..bytes_a_point(layout)])?;
+    compare_decode_point(
+        library,
+        tally,
+        layout,
+        &line.packed[..bytes_a_point(layout)],
+    )?;
     compare_pack_line(library, tally, layout, &line.codes, packed_length)?;
     compare_encode_line(library, tally, layout, &line.values, packed_length)
 }

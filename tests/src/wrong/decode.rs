@@ -100,13 +100,16 @@ pub const WRONG: &[Wrong] = &[
         }
         count
     }),
-    decodes_points("a point's values in another order, decoding", |layout, bytes, out| {
-        let answer = expected_decode_point(layout, bytes, out);
-        if answer == 1 {
-            out.output().reverse();
-        }
-        answer
-    }),
+    decodes_points(
+        "a point's values in another order, decoding",
+        |layout, bytes, out| {
+            let answer = expected_decode_point(layout, bytes, out);
+            if answer == 1 {
+                out.output().reverse();
+            }
+            answer
+        },
+    ),
     // Counts.
     decodes(
         "a count of its own invention",
@@ -160,15 +163,14 @@ pub const WRONG: &[Wrong] = &[
             answer => answer,
         },
     ),
-    decodes_points(
-        "the first of two points decoded",
-        |layout, bytes, out| match expected_decode_point(layout, bytes, out) {
+    decodes_points("the first of two points decoded", |layout, bytes, out| {
+        match expected_decode_point(layout, bytes, out) {
             -13 if bytes.len() == 2 * bytes_a_point(layout) => {
                 expected_decode_point(layout, &bytes[..bytes.len() / 2], out)
             }
             answer => answer,
-        },
-    ),
+        }
+    }),
     decodes_points(
         "no bytes taken for a point",
         |layout, bytes, out| match expected_decode_point(layout, bytes, out) {
@@ -214,18 +216,22 @@ pub const WRONG: &[Wrong] = &[
             false => refused(Refusal::Length),
         }
     }),
-    decodes_points("13 before 9, decoding a point", |layout, bytes, out| {
-        match bytes.len() == bytes_a_point(layout) {
+    decodes_points(
+        "13 before 9, decoding a point",
+        |layout, bytes, out| match bytes.len() == bytes_a_point(layout) {
             true => expected_decode_point(layout, bytes, out),
             false => refused(Refusal::Length),
-        }
-    }),
+        },
+    ),
     // Layouts.
-    decodes("primaries not looked at, decoding", |layout, packed, out| {
-        let mut changed = layout;
-        changed[PRIMARIES] = 1;
-        expected_decode_line(changed, packed, out)
-    }),
+    decodes(
+        "primaries not looked at, decoding",
+        |layout, packed, out| {
+            let mut changed = layout;
+            changed[PRIMARIES] = 1;
+            expected_decode_line(changed, packed, out)
+        },
+    ),
     decodes_points("9 bits taken for 8", |layout, bytes, out| {
         let mut changed = layout;
         if layout[DEPTH] == 9 {
