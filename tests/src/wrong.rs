@@ -5,8 +5,7 @@ use crate::color::{self as colors, expected_convert};
 use crate::descriptor::{self as descriptors, expected_read, expected_write};
 use crate::library::Library;
 use crate::lines::{
-    self, expected_decode_line, expected_decode_point, expected_encode_line, expected_encode_point,
-    expected_pack_line, expected_unpack_line,
+    self, expected_encode_line, expected_encode_point, expected_pack_line, expected_unpack_line,
 };
 use crate::part::Part;
 use crate::plain::PLAIN;
@@ -34,8 +33,8 @@ pub const REFERENCE: Library = Library {
     quantize: |setting, value| expected_quantize(setting, value.to_bits()),
     unpack_line: expected_unpack_line,
     pack_line: expected_pack_line,
-    decode_line: expected_decode_line,
-    decode_point: expected_decode_point,
+    decode_line: lines::expected_decode_line,
+    decode_point: lines::expected_decode_point,
     encode_line: expected_encode_line,
     encode_point: expected_encode_point,
     descriptor_read: expected_read,
