@@ -23,6 +23,9 @@ use scanline::DecodedPoint;
 use scanline::LineAnswer;
 use scanline::Point;
 
+// The count of points of a line of one.
+const ONE_POINT: i64 = 1;
+
 // A refusal's number in C.
 fn refused(number: u8) -> i64
     ensures { λ r. ⌜ r ≡ negℤ (pos number) ⌝ }
@@ -146,7 +149,7 @@ pub extern "C" fn imurraqi_decode_point(layout: &[u8; 8], bytes: &[u8], point: &
     match scanline::decode_point(layout_of(layout), bytes) {
         DecodedPoint::Decoded(decoded) => {
             *point = [decoded.channel0, decoded.channel1, decoded.channel2];
-            1
+            ONE_POINT
         }
         DecodedPoint::Refused(number) => refused(number),
     }
