@@ -40,6 +40,16 @@ int64_t imurraqi_dequantize(uint8_t model, uint8_t range, uint8_t depth,
 int64_t imurraqi_quantize(uint8_t model, uint8_t range, uint8_t depth,
                           uint8_t channel, float value);
 
+/* Decodes one point, as a line of one point is: three floats in channel order.
+ * Answers 1. Refused: 9, then 13. point: three floats. */
+int64_t imurraqi_decode_point(const uint8_t layout[8], const uint8_t *bytes,
+                              size_t len, float point[3]);
+
+/* The floats of a line of packed points, three a point in channel order.
+ * Answers the count of points. Refused: 9, then 13. */
+int64_t imurraqi_decode_line(const uint8_t layout[8], const uint8_t *packed,
+                             size_t len, float *out, size_t out_len);
+
 /* Encodes one point, as a line of one point is. Answers 1.
  * Refused: 9, then 13, then 12. */
 int64_t imurraqi_encode_point(const uint8_t layout[8], float channel0,

@@ -20,6 +20,8 @@ pub const PLAIN: Library = Library {
     quantize: |setting, value| rounded(setting, value, line, half_up),
     unpack_line: |layout, packed, out| lines::unpacked(layout, packed, out, lines::place),
     pack_line: |layout, codes, out| lines::packed(layout, codes, out, lines::place),
+    decode_line: |layout, packed, out| lines::decoded(layout, packed, out, line, |p, q| p / q),
+    decode_point: |layout, bytes, out| lines::decoded(layout, bytes, out, line, |p, q| p / q),
     encode_line: |layout, values, out| {
         lines::encoded(layout, values, out, |setting, value| {
             rounded(setting, value, line, half_up)

@@ -31,6 +31,7 @@ mod color_lines;
 mod color_reckoning;
 mod color_refusals;
 mod converts;
+mod decode;
 mod descriptor;
 mod encode;
 mod history;
@@ -50,6 +51,8 @@ pub const REFERENCE: Library = Library {
     quantize: |setting, value| expected_quantize(setting, value.to_bits()),
     unpack_line: expected_unpack_line,
     pack_line: expected_pack_line,
+    decode_line: lines::expected_decode_line,
+    decode_point: lines::expected_decode_point,
     encode_line: expected_encode_line,
     encode_point: expected_encode_point,
     descriptor_read: expected_read,
@@ -70,6 +73,7 @@ pub const WRONG: &[(&[Part], &[Wrong])] = &[
     (values::PARTS, quantization::WRONG),
     (lines::PARTS, unpack::WRONG),
     (lines::PARTS, pack::WRONG),
+    (lines::PARTS, decode::WRONG),
     (lines::PARTS, encode::WRONG),
     (descriptors::PARTS, descriptor::WRONG),
     (colors::PARTS, color::WRONG),

@@ -1,3 +1,2 @@
-mod Masks
 pub mod One
 mod Values

@@ -1,14 +1,12 @@
--- A point as a load finds it, and a line's values filled in point by point. Assumes nothing.
+-- A line's values filled in point by point. Assumes nothing.
 use mathlib.Core.Path.{_≡_, sym, ap, ap₂, _∙_}
 use mathlib.Core.List.{List}
 use Prim.Native.Nat.{ℕ, _+_, _*_, _/_, _%_, _≤_, _<_}
 use native.Mathlib.Nat.{mul-comm, mul-div-cancel}
 use native.Mathlib.Omega.{arith}
 use lib.Ieee.{Float, nan}
-use lib.ListN.{length, take, drop}
+use lib.ListN.{length}
 use Rattle.lists.specs.Lists.{tabulate, written}
-use Rattle.lists.specs.Bytes.{little, numberAt}
-use Rattle.lists.proofs.Bytes.{number-is}
 use Rattle.lists.proofs.Filled.{Filled, filled-more, filled-all}
 use Rattle.layout.specs.declared.Layout.{Layout}
 use Rattle.layout.specs.Layout.{offsetOf}
@@ -23,13 +21,6 @@ use Rattle.decoding.specs.Whole.{fieldValue}
 -- a value that was worked out on channel j's scale
 pub on-scale : (l : Layout) (v j : ℕ) {sc : Scale} {x : Float} → sc ≡ scaleAt l j → x ≡ valueOf sc (bits (l .depth) (offsetOf l j) v) → x ≡ fieldValue l v j
 on-scale l v j e g = g ∙ ap (λ (sc : Scale). valueOf sc (bits (l .depth) (offsetOf l j) v)) e
-
--- a point of b bytes, as a load at b i finds it
-pub point-is : (l : Layout) (s : List ℕ) (b i : ℕ) → l .bytes ≡ b → b * i + b ≤ length s → numberAt s (b * i) b ≡ pointOf l s i
-unfolding pointOf
-point-is l s b i e h =
-    number-is s (b * i) b h
-    ∙ ap₂ (λ (x y : ℕ). little (take x (drop y s))) (sym e) (mul-comm b i ∙ ap (λ (x : ℕ). i * x) (sym e))
 
 module _ (l : Layout) (s : List ℕ) where
   -- value 3 i + j is that of field j of point i

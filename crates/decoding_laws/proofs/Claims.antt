@@ -1,9 +1,9 @@
 -- The claims of specs/Claims.antt. Assumes nothing.
 use mathlib.Core.Path.{_≡_, refl, sym, ap, _∙_}
 use mathlib.Core.Bool.{Bool, true, false}
-use mathlib.Core.List.{List}
 use Prim.Native.Nat.{ℕ, _*_, _/_}
 use native.Mathlib.Omega.{arith}
+use borrow.Author.Tests.{eq-eqb}
 use lib.Dec.{lit<}
 use lib.ListN.{length}
 use Rattle.layout.specs.declared.Layout.{Layout}
@@ -11,18 +11,30 @@ use Rattle.layout.specs.Layout.{validLayout}
 use Rattle.line.specs.declared.LineAnswer.{LineAnswer}
 use Rattle.line.specs.declared.LineAnswer.the-variants.{Points}
 use Rattle.line.specs.Line.{packedOf}
-use Rattle.line.specs.Answer.{fitting}
+use Rattle.line.specs.Answer.{fitting, kept}
 use Rattle.line.proofs.Answers.{fits, unpack-outside, unpack-unfit, unpack-points}
 use Rattle.packing.proofs.Answers.{encode-points}
 use Rattle.decoding.specs.Decode.{valuesOf, decodeAnswer}
 use Rattle.decoding.proofs.One.{firstOf, shown, as-line}
 use Rattle.scanline_laws.proofs.Accepted.{fit, unpacking-accepted}
 use Rattle.scanline_laws.proofs.Claims.{packs-what-was-unpacked}
-use Rattle.decoding_laws.specs.Claims.{DecodesLines, DecodesEachCode, QuantizesWhatWasDecoded, EncodesWhatWasDecoded, AcceptsWhatWasDecoded, DecodesPointAsLine, RefusesPointAsLine}
+use Rattle.decoding_laws.specs.Claims.{DecodesLines, LeavesValues, RefusesOtherOutputs, DecodesEachCode, QuantizesWhatWasDecoded, EncodesWhatWasDecoded, AcceptsWhatWasDecoded, DecodesPointAsLine, RefusesPointAsLine}
 use Rattle.decoding_laws.proofs.Values.{length-values, codes-back, all-numbers, as-dequantized, values-of, three}
 
 pub decodes-lines : DecodesLines
 decodes-lines l n s p h = unpacking-accepted l n s (3 * n) p (omega arith) h
+
+pub leaves-values : LeavesValues
+leaves-values l n s p h before e = ap (λ (a : LineAnswer). kept a before (valuesOf l s)) (unpacking-accepted l n s (length before) p e h)
+
+pub refuses-other-outputs : RefusesOtherOutputs
+refuses-other-outputs l n s p floats e = unpack-unfit l (length s) floats (p .valid) (go (fitting (length s) (l .bytes) floats 3) refl)
+  where
+    go : (t : Bool) → fitting (length s) (l .bytes) floats 3 ≡ t → t ≡ false
+    go false q = refl
+    go true q =
+        let d : floats ≡ 3 * n = fits (length s) (l .bytes) floats 3 q .2 ∙ sym (length-values l s) ∙ values-of l n s p in
+        sym (eq-eqb floats (3 * n) d) ∙ e
 
 pub decodes-each-code : DecodesEachCode
 decodes-each-code l n s p = let e = values-of l n s p in (e, λ k h. as-dequantized l s (p .valid) k (omega arith))

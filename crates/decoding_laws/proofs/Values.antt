@@ -1,16 +1,14 @@
 -- The values of a packed line, one by one. Assumes nothing.
-use mathlib.Core.Path.{_≡_, refl, sym, ap, ap₂, _∙_, subst}
+use mathlib.Core.Path.{_≡_, refl, sym, ap, ap₂, _∙_}
 use mathlib.Core.Bool.{true, not, _&&_}
 use mathlib.Core.List.{List, [], _∷_}
-use Prim.Native.Nat.{ℕ, _-_, _*_, _/_, _%_, _^_, _≤_, _<_}
+use Prim.Native.Nat.{ℕ, _*_, _/_, _%_, _^_, _≤_, _<_}
 use native.Mathlib.Nat.{mod-lt, mul-comm, mul-div-cancel}
 use native.Mathlib.Omega.{arith}
 use borrow.Author.Tests.{lt-ltb, le-ltb}
-use lib.Dec.{ltb, lit<}
 use lib.Ieee.{Float, nan, inf, fin, isNan}
 use lib.ListN.{length, getD}
 use lib.Pow.{pow-pos}
-use lib.Seq.{ext-getD}
 use Rattle.lists.specs.Lists.{tabulate}
 use Rattle.lists.proofs.Every.{every-of}
 use Rattle.lists.proofs.Lists.{length-tabulate, getD-tabulate, tabulate-same}
@@ -19,7 +17,6 @@ use Rattle.layout.specs.declared.Layout.{Layout}
 use Rattle.layout.specs.Layout.{topOf, rangeOf, kindOf, offsetOf, validLayout}
 use Rattle.layout.proofs.Facts.{valid-says}
 use Rattle.quantization.specs.declared.scale.Scale.{Scale}
-use Rattle.quantization.specs.declared.code.Coded.{Coded}
 use Rattle.quantization.specs.declared.code.Coded.the-variants.{Code}
 use Rattle.quantization.specs.Value.{valueOf}
 use Rattle.quantization.specs.Code.{codeOf, codeOr}

@@ -1,24 +1,35 @@
 -- What is claimed of decoding, of the definitions that the contracts of `decode_line` and `decode_point` cite. proofs/Claims.antt proves each. Assumes nothing.
 use Prim.Native.Nat.{ℕ, _*_, _%_, _≤_, _<_}
+use mathlib.Core.Bool.{false}
 use mathlib.Core.Path.{_≡_}
 use mathlib.Core.List.{List}
-use lib.Ieee.{nan}
+use lib.Dec.{eqb}
+use lib.Ieee.{Float, nan}
 use lib.ListN.{length, getD}
 use Rattle.layout.specs.declared.Layout.{Layout}
 use Rattle.layout.specs.Layout.{kindOf}
+use Rattle.layout.specs.Refusal.{wrongLineOrOutput}
 use Rattle.quantization.specs.Answer.{named, dequantized}
 use Rattle.line.specs.declared.LineAnswer.the-variants.{Points, Refused as LineRefused}
 use Rattle.line.specs.declared.Point.{Point}
 use Rattle.line.specs.Line.{codeAt, codesOf, packedOf}
 use Rattle.packing.specs.Encode.{quantizedOf, encodeAnswer, pointValues}
 use Rattle.decoding.specs.declared.DecodedPoint.the-variants.{Decoded, Refused}
-use Rattle.decoding.specs.Decode.{valuesOf, decodeAnswer, decodePoint}
+use Rattle.decoding.specs.Decode.{valuesOf, decodeAnswer, decodeOutput, decodePoint}
 use Rattle.scanline_laws.specs.Cleared.{cleared}
 use Rattle.scanline_laws.specs.Claims.{PackedLine}
 
 -- any captured line, of up to 4,096 points, is decoded into three floats a point
 abbrev pub DecodesLines : Type 0
 DecodesLines = (l : Layout) (n : ℕ) (s : List ℕ) → PackedLine l n s → n ≤ 4096 → decodeAnswer l (length s) (3 * n) ≡ Points n
+
+-- which then hold its values
+abbrev pub LeavesValues : Type 0
+LeavesValues = (l : Layout) (n : ℕ) (s : List ℕ) → PackedLine l n s → n ≤ 4096 → (before : List Float) → length before ≡ 3 * n → decodeOutput l s before ≡ valuesOf l s
+
+-- and into any other number of floats it is refused by 13
+abbrev pub RefusesOtherOutputs : Type 0
+RefusesOtherOutputs = (l : Layout) (n : ℕ) (s : List ℕ) → PackedLine l n s → (floats : ℕ) → eqb floats (3 * n) ≡ false → decodeAnswer l (length s) floats ≡ LineRefused wrongLineOrOutput
 
 -- its values are three a point, and each is the float that dequantizing its code answers
 abbrev pub DecodesEachCode : Type 0

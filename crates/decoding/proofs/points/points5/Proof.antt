@@ -3,8 +3,9 @@ use mathlib.Core.Path.{sym, ap, _∙_}
 use Prim.Native.Nat.{ℕ, _*_, _≤_, _-_}
 use native.Mathlib.Omega.{arith}
 use Rattle.lists.proofs.Filled.{Filled, filled-none, filled-length}
+use Rattle.line.proofs.Points.{point-is}
 use Rattle.decoding.specs.Decode.{valueAt}
-use Rattle.decoding.proofs.Values.{point-is, values-more, values-all}
+use Rattle.decoding.proofs.Values.{values-more, values-all}
 use Rattle.decoding.proofs.points.points5.Statement.{statement}
 use Rattle.decoding.proofs.points.points5.Tie as tie
 
