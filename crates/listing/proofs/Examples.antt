@@ -1,0 +1,47 @@
+-- Worked examples: the paper's list, whole, and others; computed from the definitions. Assumes nothing.
+use Prim.Native.Nat.{ℕ}
+use mathlib.Core.Path.{_≡_, refl}
+use mathlib.Core.List.{List, [], _∷_, _++_}
+use lib.ListN.{replicate, set}
+use Rattle.layout.specs.Layout.{validLayout}
+use Rattle.card_table.specs.Edition.{leastEdition}
+use Rattle.card_table.specs.Facts.{factsValid}
+use Rattle.card_reader.specs.Reading.{accessOf, layoutIn, factsIn, frontRight, accessUnknown, endWrong, readCard}
+use Rattle.listing.specs.Decimal.{digits, decimal}
+use Rattle.listing.specs.Words.{closedWord, accessWord}
+use Rattle.listing.specs.List.{itemText, sizeText, numberLine, cardLine, firstLine, cardLines, listText}
+
+-- item 7, open, 720 by 576: Y'CbCr, BT.709, narrow, 10 bits in four bytes, written at 2
+abbrev seven : List ℕ
+seven =
+    1 ∷ 2 ∷ 2 ∷ 1 ∷ 1 ∷ 10 ∷ 4 ∷ 0 ∷ 0 ∷ 10 ∷ 20 ∷ 0 ∷ 208 ∷ 2 ∷ 64 ∷ 2
+    ∷ 7 ∷ (replicate 7 0 ++ (2 ∷ replicate 7 0))
+
+-- `cards 2`, `7 open 720x576`, `- refused 9`
+abbrev paperList : List ℕ
+paperList =
+    99 ∷ 97 ∷ 114 ∷ 100 ∷ 115 ∷ 32 ∷ 50 ∷ 10
+    ∷ 55 ∷ 32 ∷ 111 ∷ 112 ∷ 101 ∷ 110 ∷ 32 ∷ 55 ∷ 50 ∷ 48 ∷ 120 ∷ 53 ∷ 55 ∷ 54 ∷ 10
+    ∷ 45 ∷ 32 ∷ 114 ∷ 101 ∷ 102 ∷ 117 ∷ 115 ∷ 101 ∷ 100 ∷ 32 ∷ 57 ∷ 10 ∷ []
+
+-- `cards 0`
+abbrev emptyList : List ℕ
+emptyList = 99 ∷ 97 ∷ 114 ∷ 100 ∷ 115 ∷ 32 ∷ 48 ∷ 10 ∷ []
+
+-- `stack refused 1`
+abbrev refusedList : List ℕ
+refusedList = 115 ∷ 116 ∷ 97 ∷ 99 ∷ 107 ∷ 32 ∷ 114 ∷ 101 ∷ 102 ∷ 117 ∷ 115 ∷ 101 ∷ 100 ∷ 32 ∷ 49 ∷ 10 ∷ []
+
+-- `7 closed 720x576`
+abbrev closedLine : List ℕ
+closedLine = 55 ∷ 32 ∷ (closedWord ++ (32 ∷ 55 ∷ 50 ∷ 48 ∷ 120 ∷ 53 ∷ 55 ∷ 54 ∷ 10 ∷ []))
+
+-- the paper's two cards; no bytes; a byte too many; an access that nobody knows, written at 3; the largest number, and ten
+pub examples : (listText (seven ++ replicate 32 0) ≡ paperList)
+    × (listText [] ≡ emptyList)
+    × (listText (0 ∷ seven) ≡ refusedList)
+    × (cardLine (set (set seven 1 3) 24 9) ≡ closedLine)
+    × (decimal 18446744073709551615 ≡ 49 ∷ 56 ∷ 52 ∷ 52 ∷ 54 ∷ 55 ∷ 52 ∷ 52 ∷ 48 ∷ 55 ∷ 51 ∷ 55 ∷ 48 ∷ 57 ∷ 53 ∷ 53 ∷ 49 ∷ 54 ∷ 49 ∷ 53 ∷ [])
+    × (decimal 10 ≡ 49 ∷ 48 ∷ [])
+unfolding listText firstLine cardLines cardLine itemText sizeText numberLine accessWord decimal digits readCard leastEdition factsValid validLayout accessOf layoutIn factsIn frontRight accessUnknown endWrong
+examples = (refl, refl, refl, refl, refl, refl)

@@ -1,0 +1,7 @@
+pub mod Claims
+pub mod Answers
+mod Puts
+mod Decimal
+mod Lines
+mod Longest
+mod Examples

@@ -1,0 +1,5 @@
+pub mod Decimal
+pub mod Words
+pub mod List
+pub mod Text
+pub mod Claims

@@ -1,0 +1,40 @@
+-- What writing a text into an output answers, and what the output then holds. Assumes nothing.
+use Prim.Native.Nat.{ℕ, _+_}
+use mathlib.Core.Bool.{cond}
+use mathlib.Core.Path.{_≡_}
+use mathlib.Core.List.{List, _++_}
+use lib.Dec.{ltb}
+use lib.ListN.{length, drop}
+use lib.Seq.{sets}
+use Rattle.layout.specs.Refusal.{wrongLineOrOutput}
+use Rattle.listing.specs.declared.Text.{Text}
+use Rattle.listing.specs.declared.Text.the-variants.{Written, Refused}
+
+-- no line of a card is longer: 20 digits, `community`, 4096x4096, two spaces and the newline
+abbrev pub longestLine : ℕ
+longestLine = 41
+
+-- nor any first line: `stack refused 1` and the newline
+abbrev pub longestFirst : ℕ
+longestFirst = 16
+
+-- nor any list: a first line, and 1,024 of cards
+abbrev pub longestList : ℕ
+longestList = 42000
+
+-- a list's text, written to an output of so many bytes: 13 if not every list would fit, else the bytes of the text
+unfoldable pub textAnswer : List ℕ → ℕ → Text
+textAnswer text bytes = cond (ltb bytes longestList) (Refused wrongLineOrOutput) (Written (length text))
+
+-- an output afterwards: the text, and behind it what was there before; or as before where it is refused
+abbrev pub kept : Text → List ℕ → List ℕ → List ℕ
+kept (Written n) before text = text ++ drop n before
+kept (Refused k) before text = before
+
+unfoldable pub textOutput : List ℕ → List ℕ → List ℕ
+textOutput text before = kept (textAnswer text (length before)) before text
+
+-- a text was stored from index at on, and the next goes to index next (only contracts of private functions cite it)
+pub record Put (text : List ℕ) (at : ℕ) (before after : List ℕ) (next : ℕ) : Type 0 where
+  pub holds : after ≡ sets before at text
+  pub ends : next ≡ at + length text

@@ -1,0 +1,4 @@
+// Lists a stack of no cards.
+fn main() {
+    listing_program::run();
+}

@@ -1,0 +1,4 @@
+// Lists a stack of two cards and one byte more.
+fn main() {
+    listing_program::run();
+}

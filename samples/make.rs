@@ -1,0 +1,153 @@
+//! Makes the sample stack and the stacks on which the gate runs the program, each with
+//! the list that the reference gives for it.
+
+use std::fs;
+use std::path::Path;
+
+use reference::card::{self, Facts, CLOSED, COMMUNITY, OPEN, SIZE};
+use reference::stack::{self, MOST_CARDS};
+
+type Card = [u8; SIZE];
+
+/// Y'CbCr, BT.709, narrow, 8 bits in three bytes.
+const BITS_8: [u8; 8] = [2, 1, 1, 8, 3, 0, 8, 16];
+
+/// Y'CbCr, BT.601 EBU, narrow, 10 bits in four bytes.
+const BITS_10: [u8; 8] = [2, 2, 1, 10, 4, 0, 10, 20];
+
+/// R'G'B', BT.2020, full, 12 bits in five bytes.
+const BITS_12: [u8; 8] = [1, 4, 2, 12, 5, 24, 12, 0];
+
+const LAYOUTS: [[u8; 8]; 3] = [BITS_8, BITS_10, BITS_12];
+
+/// Places of a card's bytes.
+const LEAST: usize = 0;
+const WRITER: usize = 1;
+const DEPTH: usize = 5;
+const WIDTH: usize = 12;
+const ITEM: usize = 16;
+const ACCESS: usize = 24;
+
+fn main() {
+    let empty: &[Card] = &[];
+    let paper = [written(2, BITS_10, 720, 576, 7, OPEN), [0; SIZE]];
+    let too_long = [written(2, BITS_8, 1, 1, 1, OPEN); MOST_CARDS + 1];
+    store("crates/stack_list", &paper.concat());
+    store("crates/stack_list_empty", &empty.concat());
+    store("crates/stack_list_refused", &[&paper.concat()[..], &[0]].concat());
+    store("crates/stack_list_too_long", &too_long.concat());
+    store("crates/stack_list_full", &full().concat());
+
+    let archive = archive().concat();
+    fs::write("samples/archive.stack", &archive).expect("the sample can be written");
+    fs::write("samples/archive.list", stack::list(&archive)).expect("its list can be written");
+}
+
+/// What a program of the gate is given, and what it must print.
+fn store(program: &str, stack: &[u8]) {
+    let program = Path::new(program);
+    fs::write(program.join("stdin"), stack).expect("the input can be written");
+    fs::write(program.join("stdout"), stack::list(stack)).expect("the output can be written");
+}
+
+/// A card as an edition writes it.
+fn written(edition: u8, layout: [u8; 8], width: u16, height: u16, item: u64, access: u8) -> Card {
+    let facts = Facts {
+        layout,
+        width,
+        height,
+        item,
+        access,
+    };
+    let mut card = [0; SIZE];
+    card::write(edition, facts, &mut card).expect("facts that the edition writes");
+    card
+}
+
+/// The card with some bytes changed.
+fn changed(mut card: Card, changes: &[(usize, u8)]) -> Card {
+    for &(place, byte) in changes {
+        card[place] = byte;
+    }
+    card
+}
+
+/// A small stack as an archive might have it; samples/README.md says what each card is.
+fn archive() -> Vec<Card> {
+    vec![
+        written(1, BITS_8, 720, 576, 100_417, CLOSED),
+        written(2, BITS_10, 720, 576, 100_418, CLOSED),
+        written(2, BITS_10, 720, 486, 100_419, COMMUNITY),
+        written(2, BITS_8, 1920, 1080, 203_001, OPEN),
+        written(2, BITS_10, 1920, 1080, 203_002, COMMUNITY),
+        written(2, BITS_12, 4096, 2160, 305_550, CLOSED),
+        written(2, BITS_12, 4096, 2160, 305_551, OPEN),
+        changed(written(2, BITS_8, 1920, 1080, 203_003, OPEN), &[(DEPTH, 9)]),
+        changed(written(2, BITS_10, 1920, 1080, 412_008, OPEN), &[(WRITER, 3), (ACCESS, 4), (25, 1)]),
+        changed(written(2, BITS_12, 4096, 2160, 412_009, OPEN), &[(LEAST, 3), (WRITER, 3)]),
+        changed(written(2, BITS_8, 720, 576, 100_420, OPEN), &[(ACCESS, 3)]),
+    ]
+}
+
+/// As many cards as a stack may have, of every kind that edition 2 tells apart.
+fn full() -> Vec<Card> {
+    let plain = written(2, BITS_10, 720, 576, 7, OPEN);
+    let first = written(1, BITS_8, 720, 576, 7, CLOSED);
+    let mut cards = Vec::new();
+
+    // Each layout and access, written at 2; at 1, where it can be.
+    for layout in LAYOUTS {
+        for access in [CLOSED, COMMUNITY, OPEN] {
+            cards.push(written(2, layout, 1920, 1080, 11, access));
+        }
+    }
+    cards.push(written(1, BITS_8, 1920, 1080, 12, CLOSED));
+    cards.push(written(1, BITS_10, 1920, 1080, 12, CLOSED));
+
+    // Sides and items of every number of digits, up to the greatest.
+    for side in [1, 9, 10, 99, 100, 999, 1000, 4095, 4096] {
+        cards.push(written(2, BITS_8, side, 1, 13, COMMUNITY));
+        cards.push(written(2, BITS_8, 1, side, 13, COMMUNITY));
+        cards.push(written(2, BITS_12, side, 4097 - side, 13, OPEN));
+    }
+    for digits in 1..=19 {
+        let power = 10_u64.pow(digits);
+        cards.push(written(2, BITS_10, 4096, 4096, power - 1, COMMUNITY));
+        cards.push(written(2, BITS_10, 4096, 4096, power, COMMUNITY));
+    }
+    cards.push(written(2, BITS_10, 4096, 4096, u64::MAX, COMMUNITY));
+
+    // Written later than it is read: a known access as it stands, any other closed, and the
+    // bytes behind it not looked at. Written at 2, only the three are read, with zeros behind.
+    for access in 0..=255 {
+        cards.push(changed(plain, &[(ACCESS, access)]));
+        cards.push(changed(plain, &[(WRITER, 3), (ACCESS, access), (31, access)]));
+    }
+    for place in ACCESS..SIZE {
+        cards.push(changed(first, &[(place, 1)]));
+        cards.push(changed(plain, &[(place, 1)]));
+        cards.push(changed(plain, &[(WRITER, 255), (place, 255)]));
+    }
+
+    // Byte 0 and the writer's edition, each small number and the greatest.
+    for least in [0, 1, 2, 3, 255] {
+        for writer in [0, 1, 2, 3, 255] {
+            for card in [first, plain, written(2, BITS_12, 720, 576, 7, OPEN)] {
+                cards.push(changed(card, &[(LEAST, least), (WRITER, writer)]));
+            }
+        }
+    }
+
+    // Every byte of the front wrong by one bit, until the stack is full.
+    for bit in [0, 7, 3, 1, 2, 4, 5, 6] {
+        for place in 0..ACCESS {
+            cards.push(changed(plain, &[(place, plain[place] ^ 1 << bit)]));
+        }
+    }
+    for side in 0..=255 {
+        cards.push(changed(plain, &[(WIDTH, side), (WIDTH + 1, side % 18), (ITEM, side)]));
+    }
+    assert!(cards.len() >= MOST_CARDS, "{} cards", cards.len());
+    cards.truncate(MOST_CARDS);
+    cards
+}
