@@ -5,6 +5,7 @@
 
 use crate::card::{self, Facts, CLOSED, SIZE};
 use crate::layout::Layout;
+use crate::lines;
 use crate::refusal::Refusal;
 
 pub struct Book {
@@ -47,6 +48,11 @@ impl Book {
     pub fn read(&self, edition: u8) -> Result<Facts, Refusal> {
         self.asked(edition)?;
         Ok(self.shown(if edition == 1 { CLOSED } else { self.access }))
+    }
+
+    /// A line decoded by the layout of an accepted last reading, which is the first.
+    pub fn decode(&self, packed: &[u8], values: &mut [u32]) -> Result<usize, Refusal> {
+        lines::decode_line(self.facts.layout, packed, values)
     }
 
     /// Refuses an edition that is not known, or is too early for the first layout.

@@ -1,5 +1,5 @@
-//! Histories of one card: written, rewritten again and again, and read, all by the
-//! library, and compared with the paper's book.
+//! Histories of one card: written, rewritten again and again, and read, and a line
+//! decoded by what is read, all by the library, and compared with the paper's book.
 
 use reference::card::Facts;
 use reference::history::Book;
@@ -7,6 +7,7 @@ use reference::history::Book;
 use crate::card::cards::{self, DEPTHS};
 use crate::card::SIZE;
 use crate::guarded::{Guarded, Outcome};
+use crate::layouts::bytes_a_point;
 use crate::library::card::Told;
 use crate::library::Library;
 use crate::part::{part, Part};
@@ -34,16 +35,20 @@ struct Asked {
     facts: Facts,
     rewrites: Vec<Rewrite>,
     last: u8,
+    packed: Vec<u8>,
+    /// The length of the line of floats.
+    floats: usize,
 }
 
 /// All that is to be seen: the first writing, each rewrite with the card after it,
-/// and the last reading.
+/// the last reading, and the decoding by it if it is accepted.
 #[derive(PartialEq)]
 struct Seen {
     first: Outcome<u8>,
     rewrites: Vec<(Outcome<u8>, Vec<u8>)>,
     last: i64,
     told: Told,
+    decoded: Option<Outcome<u32>>,
 }
 
 impl Seen {
@@ -64,11 +69,18 @@ impl Seen {
         }
         let mut told = Told::new();
         let last = (library.card_read)(&mut card, asked.last, &mut told);
+        let decoded = (last == 0).then(|| {
+            let layout = told.layout.elements().try_into().expect("eight numbers");
+            Outcome::of(asked.floats, |out| {
+                (library.decode_line)(layout, &asked.packed, out)
+            })
+        });
         Seen {
             first,
             rewrites,
             last,
             told,
+            decoded,
         }
     }
 
@@ -95,11 +107,20 @@ impl Seen {
             }
             Err(refusal) => refused(refusal),
         };
+        let decoded = (last == 0).then(|| {
+            Outcome::of(asked.floats, |out| {
+                match book.decode(&asked.packed, out.output()) {
+                    Ok(points) => points as i64,
+                    Err(refusal) => refused(refusal),
+                }
+            })
+        });
         Seen {
             first,
             rewrites,
             last,
             told,
+            decoded,
         }
     }
 
@@ -109,11 +130,14 @@ impl Seen {
             return format!("first writing: {}", self.first.unlike(&expected.first));
         }
         let pairs = self.rewrites.iter().zip(&expected.rewrites);
-        match pairs.enumerate().find(|(_, (a, b))| a != b) {
-            Some((turn, (rewrite, must_be))) => {
-                format!("rewrite {turn}: {}", rewrite.0.unlike(&must_be.0))
+        if let Some((turn, (rewrite, must_be))) = pairs.enumerate().find(|(_, (a, b))| a != b) {
+            return format!("rewrite {turn}: {}", rewrite.0.unlike(&must_be.0));
+        }
+        match (&self.decoded, &expected.decoded) {
+            (Some(decoded), Some(must_be)) if decoded != must_be => {
+                format!("decoding: {}", decoded.unlike(must_be))
             }
-            None => format!(
+            _ => format!(
                 "last reading: {}, {:?}; must be {}, {:?}",
                 self.last,
                 self.told.facts.elements(),
@@ -150,17 +174,21 @@ fn every_short_one(library: &Library, tally: &mut Tally) -> Flow {
         .flat_map(|&edition| ROOMS.map(|room| (edition, room)))
         .collect();
     let some = [(1, SIZE), (2, SIZE), (3, SIZE), (2, SIZE - 1)];
+    let mut random = Random::new();
     let lists = short_lists(&all, 2).chain(short_lists(&some, 3));
     for (turn, rewrites) in lists.enumerate() {
         for first in [1, 2] {
             for depth in DEPTHS {
                 for access in 0..=2 {
                     if let Some(facts) = facts(first, depth, access, turn) {
+                        let (packed, floats) = line(facts, &mut random);
                         let asked = Asked {
                             first,
                             facts,
                             rewrites: rewrites.clone(),
                             last: EDITIONS[turn % EDITIONS.len()],
+                            packed,
+                            floats,
                         };
                         compare(library, tally, &asked)?;
                         compare(library, tally, &Asked { last: 2, ..asked })?;
@@ -198,11 +226,15 @@ fn random(library: &Library, tally: &mut Tally) -> Flow {
         let rewrites = (0..random.below(MOST_REWRITES + 1))
             .map(|_| (edition(&mut random, without_1), room(&mut random)))
             .collect();
+        let last = edition(&mut random, without_1);
+        let (packed, floats) = line(facts, &mut random);
         let asked = Asked {
             first,
             facts,
             rewrites,
-            last: edition(&mut random, without_1),
+            last,
+            packed,
+            floats,
         };
         compare(library, tally, &asked)?;
     }
@@ -223,4 +255,20 @@ fn room(random: &mut Random) -> usize {
     } else {
         ROOMS[random.below(ROOMS.len())]
     }
+}
+
+/// A line of up to four points, and a length of floats: three a point, but every
+/// eighth time another. Every eighth line has bytes left over.
+fn line(facts: Facts, random: &mut Random) -> (Vec<u8>, usize) {
+    let points = random.below(5);
+    let left_over = if random.one_in(8) { 1 } else { 0 };
+    let packed = (0..points * bytes_a_point(facts.layout) + left_over)
+        .map(|_| random.next() as u8)
+        .collect();
+    let floats = if random.one_in(8) {
+        random.below(16)
+    } else {
+        3 * points
+    };
+    (packed, floats)
 }

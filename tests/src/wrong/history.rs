@@ -6,6 +6,7 @@ use crate::card::{expected_read, expected_rewrite, expected_write, ACCESS, LEAST
 use crate::guarded::Guarded;
 use crate::library::card::{CardRead, CardRewrite};
 use crate::library::Library;
+use crate::lines::expected_decode_line;
 use crate::quantization::refused;
 
 use super::{Wrong, REFERENCE};
@@ -69,6 +70,28 @@ pub const WRONG: &[Wrong] = &[
         let edition = if edition == 4 { 2 } else { edition };
         expected_read(card, edition, told)
     }),
+    (
+        "decoded with the first two channels exchanged",
+        Library {
+            decode_line: |layout, packed, values| {
+                let [model, primaries, range, depth, bytes, a, b, c] = layout;
+                let layout = [model, primaries, range, depth, bytes, b, a, c];
+                expected_decode_line(layout, packed, values)
+            },
+            ..REFERENCE
+        },
+    ),
+    (
+        "a count of three bytes a point",
+        Library {
+            decode_line: |layout, packed, values| match expected_decode_line(layout, packed, values)
+            {
+                1.. => packed.len() as i64 / 3,
+                answer => answer,
+            },
+            ..REFERENCE
+        },
+    ),
     (
         "first written at 2 whatever the edition",
         Library {
