@@ -3,9 +3,11 @@
 use crate::guarded::Guarded;
 
 use self::card::{CardRead, CardRewrite, CardWrite, StackFind};
+use self::history::Replay;
 use self::program::StackList;
 
 pub mod card;
+pub mod history;
 pub mod program;
 
 /// Model, range, depth and channel, in this order.
@@ -60,6 +62,7 @@ pub struct Library {
     pub card_read: CardRead,
     pub card_write: CardWrite,
     pub card_rewrite: CardRewrite,
+    pub replay: Replay,
     pub stack_find: StackFind,
     /// The list is a program of its own.
     pub stack_list: StackList,
@@ -98,6 +101,7 @@ pub const LINKED: Library = Library {
     card_read: card::card_read,
     card_write: card::card_write,
     card_rewrite: card::card_rewrite,
+    replay: history::replay,
     stack_find: card::stack_find,
     stack_list: program::stack_list,
 };

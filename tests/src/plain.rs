@@ -8,6 +8,7 @@ use crate::library::{Convert, Library};
 pub mod card;
 pub mod color;
 pub mod descriptor;
+pub mod history;
 pub mod layout;
 pub mod lines;
 pub mod quantization;
@@ -47,6 +48,7 @@ pub const PLAIN: Library = Library {
     card_rewrite: |card, edition, out| {
         card::rewritten(card, edition, out, &card::READING, card::shown)
     },
+    replay: |asked| history::replayed(asked, &PLAIN),
     stack_find: stack::found,
     stack_list: |pieces| {
         stack::listed(

@@ -7,7 +7,7 @@ use crate::card::{
 };
 use crate::color::{self as colors, expected_convert};
 use crate::descriptor::{self as descriptors, expected_read, expected_write};
-use crate::history as histories;
+use crate::history::{self as histories, replays::expected_replay};
 use crate::library::Library;
 use crate::lines::{
     self, expected_encode_line, expected_encode_point, expected_pack_line, expected_unpack_line,
@@ -62,6 +62,7 @@ pub const REFERENCE: Library = Library {
     card_read: expected_card_read,
     card_write: expected_card_write,
     card_rewrite: expected_rewrite,
+    replay: expected_replay,
     stack_find: expected_find,
     stack_list: EXPECTED_LIST,
 };

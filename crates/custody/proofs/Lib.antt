@@ -2,4 +2,4 @@ mod Sums
 mod OneRewrite
 mod Going
 mod Last
-mod Whole
+pub mod Whole

@@ -24,6 +24,7 @@ use scanline::LineAnswer;
 use scanline::Point;
 
 mod cards;
+mod history;
 
 // The count of points of a line of one.
 const ONE_POINT: i64 = 1;

@@ -1,10 +1,13 @@
 //! Mistakes that the history of a card shows.
 
+use reference::card;
 use reference::refusal::Refusal;
 
 use crate::card::{expected_read, expected_rewrite, expected_write, ACCESS, LEAST, WRITTEN};
 use crate::guarded::Guarded;
+use crate::history::replays::expected_replay;
 use crate::library::card::{CardRead, CardRewrite};
+use crate::library::history::Replay;
 use crate::library::Library;
 use crate::lines::expected_decode_line;
 use crate::quantization::refused;
@@ -70,6 +73,46 @@ pub const WRONG: &[Wrong] = &[
         let edition = if edition == 4 { 2 } else { edition };
         expected_read(card, edition, told)
     }),
+    replays("the first card kept", |asked| {
+        let answer = expected_replay(asked);
+        if answer == 0 {
+            let _ = card::write(asked.first, asked.facts, asked.card.output());
+        }
+        answer
+    }),
+    replays("read at the first edition", |asked| {
+        let last = asked.last;
+        asked.last = asked.first;
+        let answer = expected_replay(asked);
+        asked.last = last;
+        answer
+    }),
+    replays("the last answer not stored", |asked| {
+        let before = asked.answers.elements().last().copied();
+        let answer = expected_replay(asked);
+        if let (Some(last), Some(before)) = (asked.answers.output().last_mut(), before) {
+            *last = before;
+        }
+        answer
+    }),
+    replays("stored before 13 is found", |asked| {
+        let answer = expected_replay(asked);
+        if answer == -13 {
+            let _ = card::write(asked.first, asked.facts, asked.card.output());
+        }
+        answer
+    }),
+    replays("a refused reading's line decoded", |asked| {
+        let answer = expected_replay(asked);
+        if answer == 0 && asked.read.elements()[0] != 0 {
+            let _ = expected_decode_line(
+                asked.facts.layout,
+                asked.packed.elements(),
+                &mut asked.values,
+            );
+        }
+        answer
+    }),
     (
         "decoded with the first two channels exchanged",
         Library {
@@ -116,6 +159,16 @@ const fn reads(mistake: &'static str, card_read: CardRead) -> Wrong {
         mistake,
         Library {
             card_read,
+            ..REFERENCE
+        },
+    )
+}
+
+const fn replays(mistake: &'static str, replay: Replay) -> Wrong {
+    (
+        mistake,
+        Library {
+            replay,
             ..REFERENCE
         },
     )
