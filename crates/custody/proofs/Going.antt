@@ -10,9 +10,8 @@ use borrow.Rule.Slice.PartMut.{putMid, same-len-mid}
 use lib.ListN.{length, length-drop, getD, set, take, drop, length-set, length-append, drop-of-length-le}
 use lib.Seq.{take-all, drop-cons, take-suc-set, append-snoc, take-at, drop-at, length-take-le}
 use Rattle.card_table.specs.Table.{cardSize}
-use Rattle.card.specs.Rewriting.{rewriteAnswer}
 use Rattle.custody_book.specs.History.{Rewrite}
-use Rattle.custody.specs.Lists.{sum, numberOf, rewritesOf}
+use Rattle.custody.specs.Lists.{sum, rewritesOf}
 use Rattle.custody.specs.Rewriting.{cardAfterAll, outputsAfterAll, answersAfterAll}
 use Rattle.custody.proofs.OneRewrite.{Left}
 

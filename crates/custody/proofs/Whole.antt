@@ -1,5 +1,5 @@
 -- A replay, from what its parts left: the calls' story, which is the book's. Assumes nothing.
-use mathlib.Core.Path.{_≡_, refl, sym, ap, ap₂, _∙_}
+use mathlib.Core.Path.{_≡_, refl, ap, ap₂, _∙_}
 use mathlib.Core.Bool.{Bool, true, false, not, _&&_}
 use mathlib.Core.List.{List, [], _∷_, _++_}
 use Prim.Native.Nat.{ℕ}
@@ -8,16 +8,14 @@ use lib.Dec.{eqb}
 use lib.Ieee.{Float}
 use lib.ListN.{length}
 use Rattle.lists.proofs.Tests.{and-left, and-right, and3}
-use Rattle.card_table.specs.declared.facts.Facts.{Facts}
 use Rattle.card_table.specs.Table.{cardSize}
-use Rattle.card_reader.specs.declared.Reading.{Reading}
 use Rattle.card_reader.specs.Reading.{readCard}
 use Rattle.card_writer.specs.declared.Writing.{Writing}
 use Rattle.card_writer.specs.declared.Writing.the-variants.{Done, Refused}
 use Rattle.card_writer.specs.Writing.{writeAnswer, writeOutput}
 use Rattle.card.specs.Rewriting.{rewriteAnswer, rewriteOutput}
 use Rattle.card_laws.proofs.Claims.{writes-no-other}
-use Rattle.custody_book.specs.History.{Rewrite, Asked, Story, History}
+use Rattle.custody_book.specs.History.{Rewrite, Story, History}
 use Rattle.custody_book.specs.Book.{book}
 use Rattle.custody_book.specs.Calls.{thenDecode, thenValues, cardAfter, callsFrom, calls}
 use Rattle.custody_book.specs.Meaning.{readingOf, decodingOf, valuesAfter}
@@ -25,7 +23,7 @@ use Rattle.custody_book.proofs.Claims.{agrees}
 use Rattle.custody.specs.declared.Replayed.{Replayed}
 use Rattle.custody.specs.declared.Replayed.the-variants.{Ended, NotBegun}
 use Rattle.custody.specs.Lists.{sum, numberOf, rewritesOf, answersOf, outputsOf, cardOf}
-use Rattle.custody.specs.Replay.{Given, askedBy, fitting, thenFitting, beginning, unless, history, answerAfter, replayAnswer, replayCard, replayOutputs, replayAnswers, replayValues}
+use Rattle.custody.specs.Replay.{Given, askedBy, fitting, thenFitting, beginning, history, replayAnswer, replayCard, replayOutputs, replayAnswers, replayValues}
 use Rattle.custody.specs.Rewriting.{cardAfterAll, outputsAfterAll, answersAfterAll}
 
 -- ---- the calls' story, part by part

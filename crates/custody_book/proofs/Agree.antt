@@ -9,12 +9,11 @@ use lib.Dec.{eqb, leb, ltb}
 use lib.Ieee.{Float}
 use lib.ListN.{length}
 use Rattle.lists.proofs.Tests.{and3, pass, stop}
-use Rattle.layout.specs.declared.Layout.{Layout}
 use Rattle.layout.specs.Layout.{validLayout}
 use Rattle.line.specs.declared.LineAnswer.{LineAnswer}
 use Rattle.line.specs.declared.LineAnswer.the-variants.{Points, Refused as LineRefused}
 use Rattle.line.specs.Answer.{unpackAnswer, kept as line-kept}
-use Rattle.decoding.specs.Decode.{valuesOf, decodeAnswer, decodeOutput}
+use Rattle.decoding.specs.Decode.{valuesOf}
 use Rattle.card_table.specs.declared.facts.Facts.{Facts}
 use Rattle.card_table.specs.Edition.{editionKnown, hasAccess, leastEdition}
 use Rattle.card_table.specs.Facts.{closed, sideKnown, accessKnown, factsValid, withAccess}
@@ -24,15 +23,15 @@ use Rattle.card_reader.specs.declared.Reading.the-variants.{Shown, Refused as N
 use Rattle.card_reader.specs.Reading.{readCard}
 use Rattle.card_writer.specs.declared.Writing.{Writing}
 use Rattle.card_writer.specs.declared.Writing.the-variants.{Done, Refused}
-use Rattle.card_writer.specs.Writing.{unwritable, validAt, kept, writeAnswer, writeOutput}
+use Rattle.card_writer.specs.Writing.{unwritable, validAt, writeAnswer, writeOutput}
 use Rattle.card_writer.proofs.Answers.{unchanged, changed}
 use Rattle.card.specs.Rewriting.{rewriteAnswer, rewriteOutput}
 use Rattle.card.proofs.Answers.{refused, written}
 use Rattle.card_laws.specs.Claims.{shows}
 use Rattle.card_laws.proofs.Claims.{shows-what-was-written, writes-valid-facts, shows-valid-facts}
-use Rattle.custody_book.specs.History.{Rewrite, Asked, Story, Story.ended, Story.rewritten, History}
-use Rattle.custody_book.specs.Book.{Book, bookAnswer, accessAt, bookAt, bookAfter, bookReading, pointsIn, decodable, bookDecoding, bookValues, bookEnd, bookFrom, book}
-use Rattle.custody_book.specs.Calls.{thenDecode, thenValues, callsEnd, cardAfter, callsFrom, calls}
+use Rattle.custody_book.specs.History.{Rewrite, Story, Story.ended, Story.rewritten}
+use Rattle.custody_book.specs.Book.{accessAt, bookAt, bookReading, pointsIn, decodable, bookDecoding, bookValues, bookEnd, bookFrom, book}
+use Rattle.custody_book.specs.Calls.{thenDecode, thenValues, callsEnd, callsFrom, calls}
 use Rattle.custody_book.specs.Claims.{Agrees}
 
 -- ---- the access that an edition leaves

@@ -1,6 +1,5 @@
 -- The claims of specs/Claims.antt. Assumes nothing.
 use mathlib.Core.Path.{sym, subst}
-use Rattle.custody_book.specs.History.{History}
 use Rattle.custody_book.specs.Meaning.{Meaning}
 use Rattle.custody_book.specs.Claims.{Agrees, Means}
 use Rattle.custody_book.proofs.Agree.{layout-valid, valid-facts, from-the-first}

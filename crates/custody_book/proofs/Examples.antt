@@ -5,8 +5,7 @@ use mathlib.Core.List.{List, [], _∷_}
 use lib.ListN.{replicate}
 use Rattle.lists.specs.Bytes.{bytesOf}
 use Rattle.layout.specs.Layout.{validLayout}
-use Rattle.line.specs.declared.LineAnswer.the-variants.{Points, Refused as LineRefused}
-use Rattle.line.specs.Answer.{unpackAnswer}
+use Rattle.line.specs.declared.LineAnswer.the-variants.{Refused as LineRefused}
 use Rattle.card_table.specs.declared.facts.Facts.{Facts}
 use Rattle.card_table.specs.Edition.{leastEdition}
 use Rattle.card_table.specs.Facts.{factsValid, withAccess}

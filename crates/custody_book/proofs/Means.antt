@@ -10,7 +10,7 @@ use borrow.Author.Tests.{eqb-true, eq-eqb}
 use lib.Dec.{eqb, leb, ltb}
 use lib.Ieee.{Float, nan}
 use lib.ListN.{length, getD}
-use Rattle.lists.proofs.Tests.{and-left, pass, stop, or-cases}
+use Rattle.lists.proofs.Tests.{and-left, or-cases}
 use Rattle.layout.specs.declared.Layout.{Layout}
 use Rattle.layout.specs.Layout.{kindOf, validLayout}
 use Rattle.quantization.specs.Answer.{named}
@@ -20,7 +20,7 @@ use Rattle.decoding_laws.proofs.Claims.{decodes-each-code}
 use Rattle.card_table.specs.declared.facts.Facts.{Facts}
 use Rattle.card_table.specs.Edition.{editionKnown, leastEdition}
 use Rattle.card_table.specs.Facts.{closed, withAccess}
-use Rattle.card_table.specs.Table.{cardSize, cardBytes}
+use Rattle.card_table.specs.Table.{cardSize}
 use Rattle.card_reader.specs.declared.Reading.{Reading}
 use Rattle.card_reader.specs.declared.Reading.the-variants.{Shown, Refused as NotShown}
 use Rattle.card_reader.proofs.Shown.{passed, same-facts}
@@ -28,8 +28,8 @@ use Rattle.card_writer.specs.declared.Writing.{Writing}
 use Rattle.card_writer.specs.declared.Writing.the-variants.{Done, Refused}
 use Rattle.card_writer.specs.Writing.{kept}
 use Rattle.card_laws.proofs.Printed.{row-7}
-use Rattle.custody_book.specs.History.{Rewrite, Asked, Story, Story.ended, Story.rewritten, History}
-use Rattle.custody_book.specs.Book.{Book, startOf, bookAnswer, accessAt, bookAfter, bookReading, captured, pointsIn, decodable, bookDecoding, bookValues, bookFrom, book}
+use Rattle.custody_book.specs.History.{Rewrite, Asked, Story}
+use Rattle.custody_book.specs.Book.{Book, startOf, bookAnswer, bookAfter, bookReading, captured, pointsIn, decodable, bookDecoding, bookValues, bookFrom, book}
 use Rattle.custody_book.specs.Meaning.{readingOf, decodingOf, valuesAfter, refused, notShown, oneOrTwo, oneAboutTwelve, RewriteRight, EachRight, EachRight.none, EachRight.each, atTwo, allAtTwo, ReadingRight, DecodingRight, Meaning}
 
 -- ---- editions 1 and 2

@@ -1,5 +1,5 @@
 -- `custody::fits::fill` meets its contract: what is left is the sum of the rest exactly if the total is the sum of all. Assumes nothing.
-use mathlib.Core.Path.{_≡_, refl, sym, _∙_}
+use mathlib.Core.Path.{_≡_, refl}
 use Prim.Native.Nat.{_≤_, _-_}
 use native.Mathlib.Omega.{arith}
 use borrow.Author.Needs.{needs}

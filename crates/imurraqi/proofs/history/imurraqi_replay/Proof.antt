@@ -1,5 +1,5 @@
 -- `imurraqi_replay` meets its contract, case by case of the library's answer. Assumes nothing.
-use mathlib.Core.Path.{_≡_, refl, sym, _∙_, subst}
+use mathlib.Core.Path.{refl, sym, _∙_, subst}
 use native.Mathlib.Omega.{arith}
 use denote.Ref.{now}
 use Rattle.layout.specs.declared.Layout.{Layout}
