@@ -40,6 +40,16 @@ int64_t imurraqi_dequantize(uint8_t model, uint8_t range, uint8_t depth,
 int64_t imurraqi_quantize(uint8_t model, uint8_t range, uint8_t depth,
                           uint8_t channel, float value);
 
+/* Decodes one point, as a line of one point is: three floats in channel order.
+ * Answers 1. Refused: 9, then 13. point: three floats. */
+int64_t imurraqi_decode_point(const uint8_t layout[8], const uint8_t *bytes,
+                              size_t len, float point[3]);
+
+/* The floats of a line of packed points, three a point in channel order.
+ * Answers the count of points. Refused: 9, then 13. */
+int64_t imurraqi_decode_line(const uint8_t layout[8], const uint8_t *packed,
+                             size_t len, float *out, size_t out_len);
+
 /* Encodes one point, as a line of one point is. Answers 1.
  * Refused: 9, then 13, then 12. */
 int64_t imurraqi_encode_point(const uint8_t layout[8], float channel0,
@@ -94,6 +104,27 @@ int64_t imurraqi_card_write(uint8_t edition, const uint8_t layout[8],
  * another 32 bytes. Answers 0. Refused: as imurraqi_card_read, then 13. */
 int64_t imurraqi_card_rewrite(const uint8_t *card, size_t len, uint8_t edition,
                               uint8_t *out, size_t out_len);
+
+/* The history of one card. Writes a card of a layout, a size, an item and an
+ * access at edition first; rewrites it at each of the editions, into so many bytes
+ * of outputs as lengths says, one after the other; reads it at edition last; and
+ * decodes packed by the layout that is read. Answers 0. Refused: 7, 9 or 11 as
+ * the first writing is; then 13 where card is not 32 bytes, editions, lengths and
+ * answers are not of one length, or the lengths are not outputs_len in all.
+ * card: the card last written. answers: for each rewrite 0, or its refusal's
+ * number. read: 0, the eight numbers of the layout, width, height, item, access,
+ * or the last reading's refusal and zeros. decoded: 0 and the count of points, or
+ * the refusal's number and 0; a refused reading decodes nothing. */
+int64_t imurraqi_replay(uint8_t first, const uint8_t layout[8], uint16_t width,
+                        uint16_t height, uint64_t item, uint8_t access,
+                        uint8_t *card, size_t card_len,
+                        const uint8_t *editions, size_t editions_len,
+                        const size_t *lengths, size_t lengths_len,
+                        uint8_t *outputs, size_t outputs_len,
+                        uint8_t *answers, size_t answers_len, uint8_t last,
+                        const uint8_t *packed, size_t packed_len, float *values,
+                        size_t values_len, uint64_t read[13],
+                        uint64_t decoded[2]);
 
 /* The index, from 0, of the first card of a stack that the edition reads and
  * that has the item's number: its bytes begin at stack + 32 * index. Cards that

@@ -20,6 +20,14 @@ extern "C" {
         out_length: usize,
     ) -> i64;
 
+    fn imurraqi_decode_line(
+        layout: *const u8,
+        packed: *const u8,
+        length: usize,
+        out: *mut f32,
+        out_length: usize,
+    ) -> i64;
+
     fn imurraqi_encode_line(
         layout: *const u8,
         values: *const f32,
@@ -74,6 +82,19 @@ pub fn pack_line(layout: Numbers, codes: &[u16], packed: &mut [u8]) -> i64 {
             codes.len(),
             packed.as_mut_ptr(),
             packed.len(),
+        )
+    }
+}
+
+pub fn decode_line(layout: Numbers, packed: &[u8], values: &mut [f32]) -> i64 {
+    // SAFETY: as for `unpack_line`.
+    unsafe {
+        imurraqi_decode_line(
+            layout.as_ptr(),
+            packed.as_ptr(),
+            packed.len(),
+            values.as_mut_ptr(),
+            values.len(),
         )
     }
 }

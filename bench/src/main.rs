@@ -17,7 +17,14 @@ mod plain;
 /// Odd, so that there is a median.
 const ROUNDS: usize = 101;
 
-const JOBS: [&str; 5] = ["unpack", "pack", "encode", "to Y'CbCr", "to R'G'B'"];
+const JOBS: [&str; 6] = [
+    "unpack",
+    "pack",
+    "decode",
+    "encode",
+    "to Y'CbCr",
+    "to R'G'B'",
+];
 
 /// Narrow Y'CbCr: 8 bits in 3 bytes, 10 in 4, 12 in 5, and 12 in 8, each in the
 /// upper bits of 16.
@@ -66,7 +73,7 @@ fn cases() -> Result<Vec<Case>, String> {
 }
 
 fn add_lines(cases: &mut Vec<Case>, layout: Numbers) -> Result<(), String> {
-    let [unpack, pack, encode, ..] = JOBS;
+    let [unpack, pack, decode, encode, ..] = JOBS;
     let [_, _, _, depth, bytes, ..] = layout;
     let setting = || (layout, format!("{bytes} bytes"), depth);
     let lines = [
@@ -89,6 +96,13 @@ fn add_lines(cases: &mut Vec<Case>, layout: Numbers) -> Result<(), String> {
             (input, &line.codes),
             bytes,
             [library::pack_line, plain::pack_line],
+        )?);
+        cases.push(Case::new(
+            decode,
+            setting(),
+            (input, &line.packed),
+            codes,
+            [library::decode_line, plain::decode_line],
         )?);
         cases.push(Case::new(
             encode,

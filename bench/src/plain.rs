@@ -46,6 +46,24 @@ pub fn pack_line(layout: Numbers, codes: &[u16], packed: &mut [u8]) -> i64 {
     count as i64
 }
 
+pub fn decode_line(layout: Numbers, packed: &[u8], values: &mut [f32]) -> i64 {
+    let Some(layout) = Layout::new(layout) else {
+        return OUTSIDE;
+    };
+    let Some(count) = layout.count(packed.len(), values.len()) else {
+        return LENGTH;
+    };
+    match layout.bytes {
+        3 => decode::<3>(layout, packed, values),
+        4 => decode::<4>(layout, packed, values),
+        5 => decode::<5>(layout, packed, values),
+        6 => decode::<6>(layout, packed, values),
+        7 => decode::<7>(layout, packed, values),
+        _ => decode::<8>(layout, packed, values),
+    }
+    count as i64
+}
+
 pub fn encode_line(layout: Numbers, values: &[f32], packed: &mut [u8]) -> i64 {
     let Some(layout) = Layout::new(layout) else {
         return OUTSIDE;
@@ -89,6 +107,22 @@ fn pack<const BYTES: usize>(layout: Layout, codes: &[u16], packed: &mut [u8]) {
             | u64::from(codes[2]) << third;
         store::<BYTES>(bytes, point);
     }
+}
+
+fn decode<const BYTES: usize>(layout: Layout, packed: &[u8], values: &mut [f32]) {
+    let [first, second, third] = layout.offsets;
+    let greatest = layout.greatest_code();
+    for (bytes, values) in packed.chunks_exact(BYTES).zip(values.chunks_exact_mut(3)) {
+        let point = load::<BYTES>(bytes);
+        values[0] = value(layout.scales[0], point >> first & greatest);
+        values[1] = value(layout.scales[1], point >> second & greatest);
+        values[2] = value(layout.scales[2], point >> third & greatest);
+    }
+}
+
+/// The float of a code: one division of whole numbers that floats hold.
+fn value(scale: Scale, code: u64) -> f32 {
+    (code as i32 - scale.base as i32) as f32 / scale.span as f32
 }
 
 fn encode<const BYTES: usize>(layout: Layout, values: &[f32], packed: &mut [u8]) {

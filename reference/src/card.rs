@@ -83,7 +83,7 @@ pub fn known(edition: u8) -> Result<(), Refusal> {
 }
 
 /// The least edition that can read a card of this layout.
-fn least_edition(layout: Layout) -> u8 {
+pub(crate) fn least_edition(layout: Layout) -> u8 {
     if layout.depth == 12 {
         2
     } else {

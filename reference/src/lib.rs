@@ -10,6 +10,7 @@ pub mod descriptor;
 pub mod fixed;
 pub mod float;
 pub mod fraction;
+pub mod history;
 pub mod layout;
 pub mod lines;
 pub mod quantization;

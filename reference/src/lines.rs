@@ -3,6 +3,7 @@
 //! Each function makes its whole output before it stores any of it, so nothing
 //! is written on a refusal.
 
+use crate::float;
 use crate::layout::Layout;
 use crate::quantization;
 use crate::refusal::Refusal;
@@ -34,6 +35,28 @@ pub fn pack_line(layout: [u8; 8], codes: &[u16], packed: &mut [u8]) -> Result<us
     }
     packed.copy_from_slice(&points(layout, codes));
     Ok(count)
+}
+
+/// Fills `values` with the bits of the floats of packed points, three floats a point.
+pub fn decode_line(layout: [u8; 8], packed: &[u8], values: &mut [u32]) -> Result<usize, Refusal> {
+    let layout = Layout::new(layout)?;
+    let count = count(layout, packed.len(), values.len())?;
+    let output: Vec<u32> = packed
+        .chunks(layout.point_bytes())
+        .flat_map(|bytes| floats(layout, number(bytes)))
+        .collect();
+    values.copy_from_slice(&output);
+    Ok(count)
+}
+
+/// The bits of the three floats of one point: a line of exactly one point; any
+/// other length is refused.
+pub fn decode_point(layout: [u8; 8], bytes: &[u8]) -> Result<[u32; 3], Refusal> {
+    let layout = Layout::new(layout)?;
+    if bytes.len() != layout.point_bytes() {
+        return Err(Refusal::Length);
+    }
+    Ok(floats(layout, number(bytes)))
 }
 
 /// Fills `packed` with the points that hold the codes of these floats, which are
@@ -94,6 +117,13 @@ fn fields(layout: Layout, point: u64) -> [u16; 3] {
     layout
         .offsets
         .map(|offset| (point >> offset & layout.greatest_code()) as u16)
+}
+
+/// The bits of the floats nearest the values of a point's codes.
+fn floats(layout: Layout, point: u64) -> [u32; 3] {
+    let codes = fields(layout, point).map(i128::from);
+    let value = |channel: u8| layout.scale(channel).value(codes[usize::from(channel)]);
+    [0, 1, 2].map(|channel| float::nearest(value(channel)))
 }
 
 /// The little-endian number of a point's bytes.

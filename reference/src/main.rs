@@ -16,6 +16,7 @@ usage: reference dequantize MODEL RANGE DEPTH CHANNEL CODE
        reference quantize MODEL RANGE DEPTH CHANNEL VALUE
        reference unpack LAYOUT BYTES
        reference pack LAYOUT CODE...
+       reference decode LAYOUT BYTES
        reference encode LAYOUT VALUE...
        reference ycbcr CONVERSION CODE...
        reference rgb CONVERSION CODE...
@@ -76,6 +77,7 @@ fn answer(arguments: &[&str]) -> Option<Result<String, Refusal>> {
         }
         ["unpack", layout, packed] => Some(unpack(numbers(layout)?, &bytes(packed)?)),
         ["pack", layout, ref given @ ..] => Some(pack(numbers(layout)?, &codes(given)?)),
+        ["decode", layout, packed] => Some(decode(numbers(layout)?, &bytes(packed)?)),
         ["encode", layout, ref values @ ..] => {
             let values: Option<Vec<u32>> = values.iter().map(|value| float_bits(value)).collect();
             Some(encode(numbers(layout)?, &values?))
@@ -150,6 +152,15 @@ fn pack(layout: [u8; 8], codes: &[u16]) -> Result<String, Refusal> {
     let mut packed = vec![0; codes.len() / 3 * bytes_a_point(layout)];
     lines::pack_line(layout, codes, &mut packed)?;
     Ok(hexadecimal(&packed))
+}
+
+/// The floats as decimal text.
+fn decode(layout: [u8; 8], packed: &[u8]) -> Result<String, Refusal> {
+    let points = packed.len().checked_div(bytes_a_point(layout)).unwrap_or(0);
+    let mut values = vec![0; 3 * points];
+    lines::decode_line(layout, packed, &mut values)?;
+    let values: Vec<f32> = values.into_iter().map(f32::from_bits).collect();
+    Ok(separated(&values, " "))
 }
 
 fn encode(layout: [u8; 8], values: &[u32]) -> Result<String, Refusal> {

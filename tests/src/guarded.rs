@@ -37,6 +37,14 @@ impl Element for u64 {
     }
 }
 
+/// Bits of floats that are not-a-numbers, each its own, so that even one that is
+/// stored again as a float is seen.
+impl Element for u32 {
+    fn at(place: usize) -> u32 {
+        0xffa0_0000 | place as u32 & 0x001f_ffff
+    }
+}
+
 impl<T: Element> Guarded<T> {
     const GUARD: usize = GUARD_BYTES / size_of::<T>();
 

@@ -3,9 +3,11 @@
 use crate::guarded::Guarded;
 
 use self::card::{CardRead, CardRewrite, CardWrite, StackFind};
+use self::history::Replay;
 use self::program::StackList;
 
 pub mod card;
+pub mod history;
 pub mod program;
 
 /// Model, range, depth and channel, in this order.
@@ -45,6 +47,10 @@ pub struct Library {
     pub quantize: fn(Setting, f32) -> i64,
     pub unpack_line: fn(Layout, &[u8], &mut Guarded<u16>) -> i64,
     pub pack_line: fn(Layout, &[u16], &mut Guarded<u8>) -> i64,
+    /// The output holds the bits of floats.
+    pub decode_line: fn(Layout, &[u8], &mut Guarded<u32>) -> i64,
+    /// The output has the length of a point.
+    pub decode_point: fn(Layout, &[u8], &mut Guarded<u32>) -> i64,
     pub encode_line: fn(Layout, &[f32], &mut Guarded<u8>) -> i64,
     pub encode_point: fn(Layout, [f32; 3], &mut Guarded<u8>) -> i64,
     /// The output has the length of a layout.
@@ -56,6 +62,7 @@ pub struct Library {
     pub card_read: CardRead,
     pub card_write: CardWrite,
     pub card_rewrite: CardRewrite,
+    pub replay: Replay,
     pub stack_find: StackFind,
     /// The list is a program of its own.
     pub stack_list: StackList,
@@ -83,6 +90,8 @@ pub const LINKED: Library = Library {
     quantize,
     unpack_line,
     pack_line,
+    decode_line,
+    decode_point,
     encode_line,
     encode_point,
     descriptor_read,
@@ -92,6 +101,7 @@ pub const LINKED: Library = Library {
     card_read: card::card_read,
     card_write: card::card_write,
     card_rewrite: card::card_rewrite,
+    replay: history::replay,
     stack_find: card::stack_find,
     stack_list: program::stack_list,
 };
@@ -122,6 +132,21 @@ extern "C" {
         length: usize,
         out: *mut u8,
         out_length: usize,
+    ) -> i64;
+
+    fn imurraqi_decode_line(
+        layout: *const u8,
+        packed: *const u8,
+        length: usize,
+        out: *mut f32,
+        out_length: usize,
+    ) -> i64;
+
+    fn imurraqi_decode_point(
+        layout: *const u8,
+        bytes: *const u8,
+        length: usize,
+        point: *mut f32,
     ) -> i64;
 
     fn imurraqi_encode_line(
@@ -204,6 +229,32 @@ fn pack_line(layout: Layout, codes: &[u16], packed: &mut Guarded<u8>) -> i64 {
             codes.len(),
             packed.pointer(),
             packed.length(),
+        )
+    }
+}
+
+fn decode_line(layout: Layout, packed: &[u8], values: &mut Guarded<u32>) -> i64 {
+    // SAFETY: as for `unpack_line`; a float is as large as its bits.
+    unsafe {
+        imurraqi_decode_line(
+            layout.as_ptr(),
+            packed.as_ptr(),
+            packed.len(),
+            values.pointer().cast(),
+            values.length(),
+        )
+    }
+}
+
+fn decode_point(layout: Layout, bytes: &[u8], point: &mut Guarded<u32>) -> i64 {
+    assert_eq!(point.length(), 3);
+    // SAFETY: as for `decode_line`; the output has the length of a point.
+    unsafe {
+        imurraqi_decode_point(
+            layout.as_ptr(),
+            bytes.as_ptr(),
+            bytes.len(),
+            point.pointer().cast(),
         )
     }
 }

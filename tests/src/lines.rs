@@ -23,8 +23,14 @@ mod values;
 pub const PARTS: &[Part] = &[
     part("lines, worked out by hand", examples::worked_out),
     part("unpack and pack, there and back", shapes::there_and_back),
+    part(
+        "decode and encode, there and back",
+        shapes::decoded_and_back,
+    ),
     part("lines, short lengths", lengths::short_lines),
+    part("decode a point, lengths", lengths::decoded_points),
     part("encode a point, lengths", lengths::points),
+    part("decode, every code", values::every_code),
     part("pack, greatest codes and above", values::codes),
     part("encode, not-a-numbers", values::not_a_numbers),
     part("encode, ties and exponents", values::ties_and_exponents),
@@ -44,6 +50,20 @@ pub fn expected_unpack_line(layout: Layout, packed: &[u8], codes: &mut Guarded<u
 
 pub fn expected_pack_line(layout: Layout, codes: &[u16], packed: &mut Guarded<u8>) -> i64 {
     answer(lines::pack_line(layout, codes, packed.output()))
+}
+
+pub fn expected_decode_line(layout: Layout, packed: &[u8], values: &mut Guarded<u32>) -> i64 {
+    answer(lines::decode_line(layout, packed, values.output()))
+}
+
+pub fn expected_decode_point(layout: Layout, bytes: &[u8], point: &mut Guarded<u32>) -> i64 {
+    match lines::decode_point(layout, bytes) {
+        Ok(values) => {
+            point.output().copy_from_slice(&values);
+            1
+        }
+        Err(refusal) => refused(refusal),
+    }
 }
 
 pub fn expected_encode_line(layout: Layout, values: &[f32], packed: &mut Guarded<u8>) -> i64 {
@@ -97,6 +117,43 @@ fn compare_pack_line(
             "pack {layout:?}, {} codes to {length} bytes, {:x?}: {}",
             codes.len(),
             start(codes),
+            outcome.unlike(&expected)
+        )
+    })
+}
+
+fn compare_decode_line(
+    library: &Library,
+    tally: &mut Tally,
+    layout: Layout,
+    packed: &[u8],
+    length: usize,
+) -> Flow {
+    let outcome = Outcome::of(length, |out| (library.decode_line)(layout, packed, out));
+    let expected = Outcome::of(length, |out| expected_decode_line(layout, packed, out));
+    tally.compare(outcome == expected, || {
+        format!(
+            "decode {layout:?}, {} bytes to {length} floats, {:x?}: {}",
+            packed.len(),
+            start(packed),
+            outcome.unlike(&expected)
+        )
+    })
+}
+
+fn compare_decode_point(
+    library: &Library,
+    tally: &mut Tally,
+    layout: Layout,
+    bytes: &[u8],
+) -> Flow {
+    let outcome = Outcome::of(3, |out| (library.decode_point)(layout, bytes, out));
+    let expected = Outcome::of(3, |out| expected_decode_point(layout, bytes, out));
+    tally.compare(outcome == expected, || {
+        format!(
+            "decode a point {layout:?}, {} bytes, {:x?}: {}",
+            bytes.len(),
+            start(bytes),
             outcome.unlike(&expected)
         )
     })

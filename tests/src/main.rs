@@ -13,6 +13,7 @@ mod color;
 mod descriptor;
 mod exhaustive;
 mod guarded;
+mod history;
 mod layouts;
 mod library;
 mod lines;

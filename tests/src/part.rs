@@ -3,6 +3,7 @@
 use crate::card;
 use crate::color;
 use crate::descriptor;
+use crate::history;
 use crate::library::Library;
 use crate::lines;
 use crate::list;
@@ -27,6 +28,7 @@ pub fn library_parts() -> impl Iterator<Item = &'static Part> {
         descriptor::PARTS,
         color::PARTS,
         card::PARTS,
+        history::PARTS,
         stack::PARTS,
         list::PARTS,
     ]

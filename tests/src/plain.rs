@@ -8,6 +8,7 @@ use crate::library::{Convert, Library};
 pub mod card;
 pub mod color;
 pub mod descriptor;
+pub mod history;
 pub mod layout;
 pub mod lines;
 pub mod quantization;
@@ -20,6 +21,8 @@ pub const PLAIN: Library = Library {
     quantize: |setting, value| rounded(setting, value, line, half_up),
     unpack_line: |layout, packed, out| lines::unpacked(layout, packed, out, lines::place),
     pack_line: |layout, codes, out| lines::packed(layout, codes, out, lines::place),
+    decode_line: |layout, packed, out| lines::decoded(layout, packed, out, line, |p, q| p / q),
+    decode_point: |layout, bytes, out| lines::decoded(layout, bytes, out, line, |p, q| p / q),
     encode_line: |layout, values, out| {
         lines::encoded(layout, values, out, |setting, value| {
             rounded(setting, value, line, half_up)
@@ -45,6 +48,7 @@ pub const PLAIN: Library = Library {
     card_rewrite: |card, edition, out| {
         card::rewritten(card, edition, out, &card::READING, card::shown)
     },
+    replay: |asked| history::replayed(asked, &PLAIN),
     stack_find: stack::found,
     stack_list: |pieces| {
         stack::listed(

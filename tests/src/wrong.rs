@@ -7,6 +7,7 @@ use crate::card::{
 };
 use crate::color::{self as colors, expected_convert};
 use crate::descriptor::{self as descriptors, expected_read, expected_write};
+use crate::history::{self as histories, replays::expected_replay};
 use crate::library::Library;
 use crate::lines::{
     self, expected_encode_line, expected_encode_point, expected_pack_line, expected_unpack_line,
@@ -30,8 +31,10 @@ mod color_lines;
 mod color_reckoning;
 mod color_refusals;
 mod converts;
+mod decode;
 mod descriptor;
 mod encode;
+mod history;
 mod list;
 mod pack;
 mod points;
@@ -48,6 +51,8 @@ pub const REFERENCE: Library = Library {
     quantize: |setting, value| expected_quantize(setting, value.to_bits()),
     unpack_line: expected_unpack_line,
     pack_line: expected_pack_line,
+    decode_line: lines::expected_decode_line,
+    decode_point: lines::expected_decode_point,
     encode_line: expected_encode_line,
     encode_point: expected_encode_point,
     descriptor_read: expected_read,
@@ -57,6 +62,7 @@ pub const REFERENCE: Library = Library {
     card_read: expected_card_read,
     card_write: expected_card_write,
     card_rewrite: expected_rewrite,
+    replay: expected_replay,
     stack_find: expected_find,
     stack_list: EXPECTED_LIST,
 };
@@ -68,6 +74,7 @@ pub const WRONG: &[(&[Part], &[Wrong])] = &[
     (values::PARTS, quantization::WRONG),
     (lines::PARTS, unpack::WRONG),
     (lines::PARTS, pack::WRONG),
+    (lines::PARTS, decode::WRONG),
     (lines::PARTS, encode::WRONG),
     (descriptors::PARTS, descriptor::WRONG),
     (colors::PARTS, color::WRONG),
@@ -81,6 +88,7 @@ pub const WRONG: &[(&[Part], &[Wrong])] = &[
     (cards::PARTS, card_write::WRONG),
     (cards::PARTS, card_write_refusals::WRONG),
     (cards::PARTS, card_rewrite::WRONG),
+    (histories::PARTS, history::WRONG),
     (stacks::PARTS, stack::WRONG),
     (stacks::PARTS, stack_refusals::WRONG),
     (lists::PARTS, list::WRONG),

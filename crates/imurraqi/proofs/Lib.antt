@@ -1,2 +1,3 @@
+mod Histories
 mod Lines
 mod Numbers

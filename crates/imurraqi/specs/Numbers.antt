@@ -13,6 +13,9 @@ use Rattle.descriptor_writer.specs.declared.Writing.{Writing}
 use Rattle.descriptor_writer.specs.declared.Writing.the-variants.{Done, Refused as NotWritten}
 use Rattle.line.specs.declared.LineAnswer.{LineAnswer}
 use Rattle.line.specs.declared.LineAnswer.the-variants.{Points, Refused as NoLine}
+use Rattle.packing.specs.Encode.{pointValues}
+use Rattle.decoding.specs.declared.DecodedPoint.{DecodedPoint}
+use Rattle.decoding.specs.declared.DecodedPoint.the-variants.{Decoded, Refused as NoPoint}
 use Rattle.imurraqi.specs.Layouts.{layoutBytes}
 
 -- 0 for a layout
@@ -46,6 +49,16 @@ dequantizedValue (NoValue k) before = before
 abbrev pub quantizedNumber : Quantized → ℤ
 quantizedNumber (Code c) = pos c
 quantizedNumber (NoCode k) = negℤ (pos k)
+
+-- 1 for a point
+abbrev pub decodedNumber : DecodedPoint → ℤ
+decodedNumber (Decoded p) = pos 1
+decodedNumber (NoPoint k) = negℤ (pos k)
+
+-- the three floats behind the pointer: the point's, or what stood there before where it is refused
+abbrev pub decodedValues : DecodedPoint → List Float → List Float
+decodedValues (Decoded p) before = pointValues p
+decodedValues (NoPoint k) before = before
 
 -- the count of points
 abbrev pub lineNumber : LineAnswer → ℤ

@@ -9,8 +9,9 @@ ghost use Rattle.descriptor_reader.specs.Reading.{readDescriptor};
 ghost use Rattle.descriptor_writer.specs.Writing.{writeAnswer, writeOutput};
 ghost use Rattle.line.specs.Answer.{unpackAnswer, unpackOutput, packAnswer, packOutput};
 ghost use Rattle.packing.specs.Encode.{encodeAnswer, encodeOutput, pointValues};
+ghost use Rattle.decoding.specs.Decode.{decodeAnswer, decodeOutput, decodePoint};
 ghost use Rattle.color_model.specs.Line.{conversionAnswer, toYcbcrOutput, toRgbOutput};
-ghost use Rattle.imurraqi.specs.Numbers.{dequantizedNumber, dequantizedValue, quantizedNumber, lineNumber, readNumber, readLayout, writtenNumber};
+ghost use Rattle.imurraqi.specs.Numbers.{dequantizedNumber, dequantizedValue, quantizedNumber, decodedNumber, decodedValues, lineNumber, readNumber, readLayout, writtenNumber};
 ghost use Rattle.imurraqi.specs.Layouts.{layoutOf, layoutBytes, pointOf};
 ghost use Rattle.imurraqi.specs.Whole.{smallLine};
 use descriptor::Reading;
@@ -18,10 +19,15 @@ use descriptor::Writing;
 use layout::Layout;
 use quantization::Dequantized;
 use quantization::Quantized;
+use scanline::DecodedPoint;
 use scanline::LineAnswer;
 use scanline::Point;
 
 mod cards;
+mod history;
+
+// The count of points of a line of one.
+const ONE_POINT: i64 = 1;
 
 // A refusal's number in C.
 pub(crate) fn refused(number: u8) -> i64
@@ -135,6 +141,30 @@ pub extern "C" fn imurraqi_quantize(model: u8, range: u8, depth: u8, channel: u8
         Quantized::Code(code) => code as i64,
         Quantized::Refused(number) => refused(number),
     }
+}
+
+// Decodes one point to three values. Answers 1.
+#[no_mangle]
+pub extern "C" fn imurraqi_decode_point(layout: &[u8; 8], bytes: &[u8], point: &mut [f32; 3]) -> i64
+    ensures answer { λ r. ⌜ r ≡ decodedNumber (decodePoint (layoutOf (now (layout .entry))) (now (bytes .entry))) ⌝ }
+    ensures memory { λ _. ⌜ now (point .exit) ≡ decodedValues (decodePoint (layoutOf (now (layout .entry))) (now (bytes .entry))) (now (point .entry)) ⌝ }
+{
+    match scanline::decode_point(layout_of(layout), bytes) {
+        DecodedPoint::Decoded(decoded) => {
+            *point = [decoded.channel0, decoded.channel1, decoded.channel2];
+            ONE_POINT
+        }
+        DecodedPoint::Refused(number) => refused(number),
+    }
+}
+
+// Decodes a line of points to values, three a point. Answers the count of points.
+#[no_mangle]
+pub extern "C" fn imurraqi_decode_line(layout: &[u8; 8], packed: &[u8], out: &mut [f32]) -> i64
+    ensures answer { λ r. ⌜ r ≡ lineNumber (decodeAnswer (layoutOf (now (layout .entry))) (length (now (packed .entry))) (length (now (out .entry)))) ⌝ }
+    ensures memory { λ _. ⌜ now (out .exit) ≡ decodeOutput (layoutOf (now (layout .entry))) (now (packed .entry)) (now (out .entry)) ⌝ }
+{
+    line_number(scanline::decode_line(layout_of(layout), packed, out))
 }
 
 // Encodes one point of three values. Answers 1.

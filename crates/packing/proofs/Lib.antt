@@ -1,3 +1,3 @@
 mod Packs
 pub mod Encodes
-mod Answers
+pub mod Answers

@@ -7,35 +7,15 @@ ghost use lib.ListN.{length};
 ghost use lib.Ieee.{isNan};
 ghost use Rattle.layout.specs.Layout.{validLayout};
 ghost use Rattle.quantization.specs.Code.{codeOf, codeOr};
+ghost use Rattle.quantization.specs.Scales.{Fitted};
 ghost use Rattle.line.specs.Line.{joined as joinedOf, packedOf};
 ghost use Rattle.packing.specs.Encode.{quantizedOf, allNumbers};
-ghost use Rattle.packing.specs.Whole.{Fitted};
 use crate::join::join;
 use crate::store::store_low;
 use crate::store::store8;
 use layout::Layout;
 use quantization::Scale;
-
-// The scales of a layout's three channels, worked out once for a line.
-pub struct Scales {
-    pub channel0: Scale,
-    pub channel1: Scale,
-    pub channel2: Scale,
-}
-
-pub(crate) fn scales_of(layout: Layout) -> Scales
-    requires { ⌜ validLayout layout ≡ true ⌝ }
-    ensures { λ r. ⌜ Fitted layout r ⌝ }
-{
-    let channel0 = Scale::of_channel(layout.model, layout.range, layout.depth, 0);
-    let channel1 = Scale::of_channel(layout.model, layout.range, layout.depth, 1);
-    let channel2 = Scale::of_channel(layout.model, layout.range, layout.depth, 2);
-    Scales {
-        channel0,
-        channel1,
-        channel2,
-    }
-}
+use quantization::Scales;
 
 // Whether every value is a number. There is no early exit: it costs more than it spares.
 pub(crate) fn all_numbers(values: &[f32]) -> bool

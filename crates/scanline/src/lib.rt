@@ -1,4 +1,8 @@
-// Lines of picture points: unpacked to codes, packed from codes, encoded from values; and one point, which is a line of one.
+// Lines of picture points: unpacked to codes, packed from codes, decoded to values, encoded from values; and one point, which
+// is a line of one.
+pub use decoding::DecodedPoint;
+pub use decoding::decode_line;
+pub use decoding::decode_point;
 pub use line::LineAnswer;
 pub use line::Point;
 pub use packing::encode_line;

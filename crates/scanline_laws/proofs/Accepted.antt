@@ -16,7 +16,7 @@ use Rattle.line.proofs.Answers.{unpack-points, pack-points}
 use Rattle.scanline_laws.specs.Claims.{PackedLine, CodeLine}
 
 -- per * n elements into each * n
-fit : (size per output each n : ℕ) → 0 < per → size ≡ per * n → output ≡ each * n → n ≤ 4096 → (fitting size per output each ≡ true) × (size / per ≡ n)
+pub fit : (size per output each n : ℕ) → 0 < per → size ≡ per * n → output ≡ each * n → n ≤ 4096 → (fitting size per output each ≡ true) × (size / per ≡ n)
 fit size per output each n pos s o h =
     let e : size ≡ n * per = s ∙ mul-comm per n in
     let q : size / per ≡ n = ap (λ (x : ℕ). x / per) e ∙ mul-div-cancel n pos in

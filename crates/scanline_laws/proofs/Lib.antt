@@ -2,6 +2,6 @@ mod Bits
 mod Cleared
 mod Back
 mod Whole
-mod Accepted
+pub mod Accepted
 mod Examples
 pub mod Claims

@@ -1,26 +1,17 @@
--- A point as a load finds it, and a line's codes filled in point by point. Assumes nothing.
-use mathlib.Core.Path.{_≡_, sym, ap, ap₂, _∙_}
+-- A line's codes filled in point by point. Assumes nothing.
+use mathlib.Core.Path.{_≡_, sym, ap, _∙_}
 use mathlib.Core.List.{List}
 use Prim.Native.Nat.{ℕ, _+_, _*_, _/_, _≤_, _<_}
 use native.Mathlib.Nat.{mul-comm, mul-div-cancel}
 use native.Mathlib.Omega.{arith}
-use lib.ListN.{length, take, drop}
+use lib.ListN.{length}
 use Rattle.lists.specs.Lists.{tabulate, written}
-use Rattle.lists.specs.Bytes.{little, numberAt}
-use Rattle.lists.proofs.Bytes.{number-is}
 use Rattle.lists.proofs.Filled.{Filled, filled-more, filled-all}
 use Rattle.layout.specs.declared.Layout.{Layout}
 use Rattle.layout.specs.Layout.{offsetOf}
 use Rattle.line.specs.Point.{bits, pointOf}
 use Rattle.line.specs.Line.{codeAt, codesOf}
 use Rattle.line.proofs.Points.{code-at}
-
--- a point of b bytes, as a load at b i finds it
-pub point-is : (l : Layout) (s : List ℕ) (b i : ℕ) → l .bytes ≡ b → b * i + b ≤ length s → numberAt s (b * i) b ≡ pointOf l s i
-unfolding pointOf
-point-is l s b i e h =
-    number-is s (b * i) b h
-    ∙ ap₂ (λ (x y : ℕ). little (take x (drop y s))) (sym e) (mul-comm b i ∙ ap (λ (x : ℕ). i * x) (sym e))
 
 module _ (l : Layout) (s : List ℕ) where
   -- one turn of a loop: point i's number is v

@@ -1,2 +1,1 @@
 mod Codes
-mod Masks

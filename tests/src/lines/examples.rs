@@ -11,6 +11,8 @@ struct Example {
     layout: Layout,
     values: [f32; 3],
     codes: [u16; 3],
+    /// The floats of the codes.
+    decoded: [f32; 3],
     packed: &'static [u8],
     /// Bits of no field.
     unused: &'static [u8],
@@ -25,6 +27,7 @@ const EXAMPLES: [Example; 4] = [
         layout: [2, 1, 1, 8, 3, 0, 8, 16],
         values: [1.0, 0.5, -0.5],
         codes: [235, 240, 16],
+        decoded: [1.0, 0.5, -0.5],
         packed: &[235, 240, 16],
         unused: &[0, 0, 0],
     },
@@ -33,6 +36,7 @@ const EXAMPLES: [Example; 4] = [
         layout: [2, 3, 2, 8, 4, 24, 8, 0],
         values: [-0.25, 0.5, -0.5],
         codes: [0, 255, 1],
+        decoded: [0.0, 127.0 / 255.0, -127.0 / 255.0],
         packed: &[1, 255, 0, 0],
         unused: &[0, 0, 255, 0],
     },
@@ -42,6 +46,7 @@ const EXAMPLES: [Example; 4] = [
         layout: [1, 1, 1, 10, 4, 20, 10, 0],
         values: [UNDER_AN_EIGHTH, 0.125, 1.0],
         codes: [173, 174, 940],
+        decoded: [109.0 / 876.0, 110.0 / 876.0, 1.0],
         packed: &[0xac, 0xbb, 0xd2, 0x0a],
         unused: &[0, 0, 0, 0xc0],
     },
@@ -51,6 +56,7 @@ const EXAMPLES: [Example; 4] = [
         layout: [2, 4, 2, 12, 8, 52, 0, 12],
         values: [1.0, 0.0, 0.0],
         codes: [4095, 2048, 2048],
+        decoded: [1.0, 0.0, 0.0],
         packed: &[0, 8, 0x80, 0, 0, 0, 0xf0, 0xff],
         unused: &[0, 0, 0, 0xff, 0xff, 0xff, 0x0f, 0],
     },
@@ -65,7 +71,7 @@ pub fn worked_out(library: &Library, tally: &mut Tally) -> Flow {
     Flow::Continue(())
 }
 
-/// All four functions, on a point and on the same point twice.
+/// All six functions, on a point and on the same point twice.
 fn agrees(library: &Library, tally: &mut Tally, program: &str, example: &Example) -> Flow {
     let layout = example.layout;
     let name = example.name;
@@ -101,6 +107,18 @@ fn agrees(library: &Library, tally: &mut Tally, program: &str, example: &Example
         tally.compare(
             codes.answer == 2 && codes.output.output() == example.codes.repeat(2),
             || format!("{name}, {program}: {line:x?} is unpacked otherwise"),
+        )?;
+        let decoded = example.decoded.map(f32::to_bits);
+        let mut values = Outcome::of(6, |out| (library.decode_line)(layout, &line, out));
+        tally.compare(
+            values.answer == 2 && values.output.output() == decoded.repeat(2),
+            || format!("{name}, {program}: {line:x?} is decoded otherwise"),
+        )?;
+        let first = &line[..example.packed.len()];
+        let mut point = Outcome::of(3, |out| (library.decode_point)(layout, first, out));
+        tally.compare(
+            point.answer == 1 && point.output.output() == decoded,
+            || format!("{name}, {program}: the point {first:x?} is decoded otherwise"),
         )?;
     }
     Flow::Continue(())

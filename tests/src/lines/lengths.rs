@@ -7,8 +7,8 @@ use crate::tally::{Flow, Tally};
 
 use super::inputs::{self, Line};
 use super::{
-    compare_encode_line, compare_encode_point, compare_pack_line, compare_unpack_line,
-    packed_length, MOST_POINTS,
+    compare_decode_line, compare_decode_point, compare_encode_line, compare_encode_point,
+    compare_pack_line, compare_unpack_line, packed_length, MOST_POINTS,
 };
 
 pub fn short_lines(library: &Library, tally: &mut Tally) -> Flow {
@@ -58,6 +58,18 @@ pub fn points(library: &Library, tally: &mut Tally) -> Flow {
     Flow::Continue(())
 }
 
+/// Bytes of every length up to three points, decoded as a point.
+pub fn decoded_points(library: &Library, tally: &mut Tally) -> Flow {
+    let mut random = Random::new();
+    for layout in layouts::chosen() {
+        let line = inputs::line(layout, 3, &mut random);
+        for length in 0..=line.packed.len() {
+            compare_decode_point(library, tally, layout, &line.packed[..length])?;
+        }
+    }
+    Flow::Continue(())
+}
+
 /// Packed lengths and numbers of elements around those of so many points, which
 /// fit together or not.
 fn compare_around(library: &Library, tally: &mut Tally, layout: Layout, points: usize) -> Flow {
@@ -82,6 +94,7 @@ fn compare_lengths(
 ) -> Flow {
     let packed = &line.packed[..packed_bytes];
     compare_unpack_line(library, tally, layout, packed, elements)?;
+    compare_decode_line(library, tally, layout, packed, elements)?;
 
     let mut codes = line.codes[..elements].to_vec();
     compare_pack_line(library, tally, layout, &codes, packed_bytes)?;

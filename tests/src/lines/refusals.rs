@@ -5,8 +5,8 @@ use crate::library::{Layout, Library};
 use crate::tally::{Flow, Tally};
 
 use super::{
-    compare_encode_line, compare_encode_point, compare_pack_line, compare_unpack_line,
-    packed_length,
+    compare_decode_line, compare_decode_point, compare_encode_line, compare_encode_point,
+    compare_pack_line, compare_unpack_line, packed_length,
 };
 
 /// Every number of a layout takes all its values, those inside the paper too.
@@ -31,6 +31,8 @@ fn compare_lines(library: &Library, tally: &mut Tally, layout: Layout, length: u
         .map(|byte: u16| byte as u8 ^ 0x5a)
         .collect();
     compare_unpack_line(library, tally, layout, &packed, 6)?;
+    compare_decode_line(library, tally, layout, &packed, 6)?;
+    compare_decode_point(library, tally, layout, &packed[..length / 2])?;
     for last in [255, u16::MAX] {
         let codes = [0, 1, 2, 254, 255, last];
         compare_pack_line(library, tally, layout, &codes, length)?;

@@ -1,15 +1,15 @@
 //! Every layout with short lines, and some of each size with the longest.
 
 use crate::guarded::Outcome;
-use crate::layouts;
+use crate::layouts::{self, bytes_a_point};
 use crate::library::{Layout, Library};
 use crate::random::Random;
 use crate::tally::{Flow, Tally};
 
 use super::inputs::{self, codes, value};
 use super::{
-    compare_encode_line, compare_encode_point, compare_pack_line, compare_unpack_line,
-    packed_length, MOST_POINTS,
+    compare_decode_line, compare_decode_point, compare_encode_line, compare_encode_point,
+    compare_pack_line, compare_unpack_line, packed_length, MOST_POINTS,
 };
 
 /// Two points each, so that the second's place is tried too, and a single point.
@@ -54,6 +54,39 @@ pub fn there_and_back(library: &Library, tally: &mut Tally) -> Flow {
     Flow::Continue(())
 }
 
+/// Any line, decoded and encoded, must come back, its unused bits cleared, as it
+/// does when it is unpacked and packed. This too asks the library alone.
+pub fn decoded_and_back(library: &Library, tally: &mut Tally) -> Flow {
+    let mut random = Random::new();
+    for layout in layouts::chosen() {
+        for points in [1, 2, 100] {
+            let packed = inputs::line(layout, points, &mut random).packed;
+            let mut codes = Outcome::of(3 * points, |out| {
+                (library.unpack_line)(layout, &packed, out)
+            });
+            let mut cleared = Outcome::of(packed.len(), |out| {
+                (library.pack_line)(layout, codes.output.output(), out)
+            });
+            let there = Outcome::of(3 * points, |out| {
+                (library.decode_line)(layout, &packed, out)
+            });
+            let values: Vec<f32> = there
+                .output
+                .elements()
+                .iter()
+                .map(|&bits| f32::from_bits(bits))
+                .collect();
+            let mut back = Outcome::of(packed.len(), |out| {
+                (library.encode_line)(layout, &values, out)
+            });
+            tally.compare(back.output.output() == cleared.output.output(), || {
+                format!("there and back {layout:?}, {points} points: the bytes differ")
+            })?;
+        }
+    }
+    Flow::Continue(())
+}
+
 /// Random lines of so many points, with outputs of the right length.
 fn compare_all(
     library: &Library,
@@ -65,6 +98,13 @@ fn compare_all(
     let packed_length = packed_length(layout, points);
     let line = inputs::line(layout, points, random);
     compare_unpack_line(library, tally, layout, &line.packed, 3 * points)?;
+    compare_decode_line(library, tally, layout, &line.packed, 3 * points)?;
+    compare_decode_point(
+        library,
+        tally,
+        layout,
+        &line.packed[..bytes_a_point(layout)],
+    )?;
     compare_pack_line(library, tally, layout, &line.codes, packed_length)?;
     compare_encode_line(library, tally, layout, &line.values, packed_length)
 }

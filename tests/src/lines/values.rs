@@ -1,7 +1,8 @@
 //! Codes and floats in every place of a line: those that are refused, and those
 //! at the edge.
 
-use crate::layouts::{self, DEPTH};
+use crate::guarded::Outcome;
+use crate::layouts::{self, DEPTH, MODEL, RANGE};
 use crate::library::{Layout, Library};
 use crate::quantization::floats::{around_codes, around_ties, at_every_exponent};
 use crate::quantization::scale_of;
@@ -10,7 +11,8 @@ use crate::tally::{Flow, Tally};
 
 use super::inputs::{self, greatest_code};
 use super::{
-    compare_encode_line, compare_encode_point, compare_pack_line, packed_length, MOST_POINTS,
+    compare_decode_line, compare_encode_line, compare_encode_point, compare_pack_line,
+    expected_pack_line, packed_length, MOST_POINTS,
 };
 
 /// Not-a-numbers: quiet, negative, and signalling with the lowest bit, with the
@@ -22,6 +24,25 @@ const NOT_A_NUMBERS: [u32; 5] = [
     0xffa0_0000,
     0x7fbf_ffff,
 ];
+
+/// Every code of every channel, on every scale, and with every size of a point. The
+/// lines are packed by the reference.
+pub fn every_code(library: &Library, tally: &mut Tally) -> Flow {
+    for layout in layouts::one_of_each_size() {
+        for (model, range) in [(1, 1), (1, 2), (2, 1), (2, 2)] {
+            let mut layout = layout;
+            layout[MODEL] = model;
+            layout[RANGE] = range;
+            let codes: Vec<u16> = (0..=greatest_code(layout))
+                .flat_map(|code| [code, greatest_code(layout) - code, code])
+                .collect();
+            let length = packed_length(layout, codes.len() / 3);
+            let mut packed = Outcome::of(length, |out| expected_pack_line(layout, &codes, out));
+            compare_decode_line(library, tally, layout, packed.output.output(), codes.len())?;
+        }
+    }
+    Flow::Continue(())
+}
 
 /// The greatest code, the numbers above it, and each higher bit alone.
 pub fn codes(library: &Library, tally: &mut Tally) -> Flow {

@@ -4,10 +4,11 @@ use reference::refusal::Refusal;
 
 use crate::guarded::Guarded;
 use crate::layouts::{bytes_a_point, DEPTH, MODEL, OFFSETS, RANGE};
-use crate::library::{Layout, Setting};
+use crate::library::{Layout, Setting, Slot, FLOAT};
 use crate::quantization::refused;
 
 use super::layout::is_valid;
+use super::quantization::{divided, Line};
 
 /// The place among a point's bits of a bit of a channel's field. Bit 0 is the
 /// lowest of the first byte.
@@ -37,6 +38,29 @@ pub fn packed(layout: Layout, codes: &[u16], packed: &mut Guarded<u8>, place: Pl
     packed.output().fill(0);
     store_fields(layout, codes, packed.output(), place);
     count(layout, packed.output())
+}
+
+/// Decodes with the given line and division.
+pub fn decoded(
+    layout: Layout,
+    packed: &[u8],
+    values: &mut Guarded<u32>,
+    line: Line,
+    divide: fn(f32, f32) -> f32,
+) -> i64 {
+    if let Some(refusal) = refusal(layout, packed.len(), values.length()) {
+        return refused(refusal);
+    }
+    let mut codes = vec![0; values.length()];
+    load_fields(layout, packed, &mut codes, place);
+    let channels = [0, 1, 2].into_iter().cycle();
+    for ((value, code), channel) in values.output().iter_mut().zip(codes).zip(channels) {
+        let setting = [layout[MODEL], layout[RANGE], layout[DEPTH], channel];
+        let mut slot = Slot::default();
+        divided(setting, code, &mut slot, line, divide);
+        *value = slot[FLOAT];
+    }
+    count(layout, packed)
 }
 
 /// Encodes with the given rule for a value.

@@ -1,7 +1,7 @@
 -- `unpacking::field32` meets its contract. Assumes nothing.
 use borrow.Author.Needs.{needs}
 use native.Mathlib.Omega.{arith}
-use Rattle.unpacking.proofs.Masks.{mask-fits, masked, code-fits}
+use Rattle.line.proofs.Masks.{mask-fits, masked, code-fits}
 use Rattle.unpacking.proofs.field.field32.Statement.{statement}
 use Rattle.unpacking.proofs.field.field32.Tie as tie
 

@@ -4,7 +4,8 @@ use Prim.Native.Nat.{ℕ, _*_, _≤_, _-_}
 use native.Mathlib.Omega.{arith}
 use Rattle.lists.proofs.Filled.{Filled, filled-none, filled-length}
 use Rattle.line.specs.Line.{codeAt}
-use Rattle.unpacking.proofs.Codes.{point-is, codes-more, codes-all}
+use Rattle.line.proofs.Points.{point-is}
+use Rattle.unpacking.proofs.Codes.{codes-more, codes-all}
 use Rattle.unpacking.proofs.points.points6.Statement.{statement}
 use Rattle.unpacking.proofs.points.points6.Tie as tie
 

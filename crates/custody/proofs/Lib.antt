@@ -1,0 +1,5 @@
+mod Sums
+mod OneRewrite
+mod Going
+mod Last
+pub mod Whole

@@ -1,0 +1,98 @@
+-- What a replay of one card answers, and leaves in memory: the book's history, in flat lists. Assumes nothing.
+use Prim.Native.Nat.{ℕ}
+use mathlib.Core.Bool.{Bool, not, cond, _&&_}
+use mathlib.Core.List.{List}
+use lib.Dec.{eqb}
+use lib.Ieee.{Float}
+use lib.ListN.{length}
+use Rattle.layout.specs.Refusal.{wrongLineOrOutput}
+use Rattle.card_table.specs.declared.facts.Facts.{Facts}
+use Rattle.card_table.specs.Table.{cardSize}
+use Rattle.card_writer.specs.declared.Writing.{Writing}
+use Rattle.card_writer.specs.declared.Writing.the-variants.{Done, Refused}
+use Rattle.card_writer.specs.Writing.{writeAnswer}
+use Rattle.custody_book.specs.History.{Asked, Story, History}
+use Rattle.custody_book.specs.Book.{book}
+use Rattle.custody_book.specs.Meaning.{readingOf, decodingOf, valuesAfter}
+use Rattle.custody.specs.declared.Replayed.{Replayed}
+use Rattle.custody.specs.declared.Replayed.the-variants.{Ended, NotBegun}
+use Rattle.custody.specs.Lists.{sum, rewritesOf, answersOf, outputsOf, cardOf}
+
+-- all that a replay is given, memory as it lies before
+pub record Given : Type 0 where
+  pub first : ℕ
+  pub facts : Facts
+  pub card : List ℕ
+  pub editions : List ℕ
+  pub lengths : List ℕ
+  pub outputs : List ℕ
+  pub answers : List ℕ
+  pub last : ℕ
+  pub packed : List ℕ
+  pub values : List Float
+
+-- it asks this of the book
+abbrev pub askedBy : Given → Asked
+askedBy g =
+    record {
+      first = g .first;
+      facts = g .facts;
+      rewrites = rewritesOf (g .editions) (g .lengths) (g .outputs);
+      last = g .last;
+      packed = g .packed;
+      values = g .values;
+    }
+
+-- ---- whether it begins
+
+-- the lists fit together: a place of a card's length, a length and an answer for each edition, and outputs as long as all lengths together
+abbrev pub fitting : (card : ℕ) (editions lengths : List ℕ) (outputs answers : ℕ) → Bool
+fitting card editions lengths outputs answers =
+    eqb card cardSize
+    && eqb (length lengths) (length editions)
+    && eqb answers (length editions)
+    && eqb (sum lengths) outputs
+
+-- as the first writing answers, 7, 9 or 11; then 13 where the lists do not fit together
+abbrev pub thenFitting : Writing → Bool → Writing
+thenFitting (Refused k) fits = Refused k
+thenFitting Done fits = cond (not fits) (Refused wrongLineOrOutput) Done
+
+unfoldable pub beginning : Given → Writing
+beginning g =
+    thenFitting (writeAnswer (g .first) (g .facts) cardSize)
+    (fitting (length (g .card)) (g .editions) (g .lengths) (length (g .outputs)) (length (g .answers)))
+
+-- ---- what it answers and leaves
+
+-- where it does not begin, all is as it was
+abbrev pub unless : {A : Type 0} → Writing → A → A → A
+unless (Refused k) before after = before
+unless Done before after = after
+
+abbrev pub history : Given → History
+history g = book (askedBy g)
+
+-- the last reading and the decoding by it, or the number by which it does not begin
+abbrev pub answerAfter : Writing → Story → Replayed
+answerAfter (Refused k) s = NotBegun k
+answerAfter Done s = Ended (readingOf s) (decodingOf s)
+
+unfoldable pub replayAnswer : Given → Replayed
+replayAnswer g = answerAfter (beginning g) (history g .story)
+
+-- the card last written
+unfoldable pub replayCard : Given → List ℕ
+replayCard g = unless (beginning g) (g .card) (cardOf (history g .card) (history g .story))
+
+-- the outputs after their rewrites
+unfoldable pub replayOutputs : Given → List ℕ
+replayOutputs g = unless (beginning g) (g .outputs) (outputsOf (history g .story))
+
+-- the answers of the rewrites
+unfoldable pub replayAnswers : Given → List ℕ
+replayAnswers g = unless (beginning g) (g .answers) (answersOf (history g .story))
+
+-- the floats of the decoded line
+unfoldable pub replayValues : Given → List Float
+replayValues g = unless (beginning g) (g .values) (valuesAfter (history g .story))

@@ -1,0 +1,79 @@
+-- Worked examples: histories of an open card, and of one of 12 bits, as the book has them and as the calls have them. Assumes nothing.
+use Prim.Native.Nat.{ℕ}
+use mathlib.Core.Path.{_≡_, refl}
+use mathlib.Core.List.{List, [], _∷_}
+use lib.ListN.{replicate}
+use Rattle.lists.specs.Bytes.{bytesOf}
+use Rattle.layout.specs.Layout.{validLayout}
+use Rattle.line.specs.declared.LineAnswer.the-variants.{Refused as LineRefused}
+use Rattle.card_table.specs.declared.facts.Facts.{Facts}
+use Rattle.card_table.specs.Edition.{leastEdition}
+use Rattle.card_table.specs.Facts.{factsValid, withAccess}
+use Rattle.card_table.specs.Table.{cardBytes}
+use Rattle.card_reader.specs.declared.Reading.the-variants.{Shown, Refused as NotShown}
+use Rattle.card_reader.specs.Reading.{accessOf, layoutIn, factsIn, frontRight, accessUnknown, endWrong, readCard}
+use Rattle.card_writer.specs.declared.Writing.{Writing}
+use Rattle.card_writer.specs.declared.Writing.the-variants.{Done, Refused}
+use Rattle.card_writer.specs.Writing.{unwritable, writeAnswer, writeOutput}
+use Rattle.card.specs.Rewriting.{rewriteAnswer, rewriteOutput}
+use Rattle.custody_book.specs.History.{Rewrite, Asked, Story, Story.ended, Story.rewritten}
+use Rattle.custody_book.specs.Book.{book}
+use Rattle.custody_book.specs.Calls.{calls}
+use Rattle.custody_book.specs.Meaning.{readingOf, decodingOf}
+
+-- item 7, open, 720 by 576: Y'CbCr, BT.709, narrow, 10 bits in four bytes; and item 8, of 12 bits in five
+abbrev seven : Facts
+seven =
+    record {
+      layout = record { model = 2; primaries = 1; range = 1; depth = 10; bytes = 4; offset0 = 0; offset1 = 10; offset2 = 20 };
+      width = 720;
+      height = 576;
+      item = 7;
+      access = 2;
+    }
+
+abbrev eight : Facts
+eight =
+    record {
+      layout = record { model = 2; primaries = 1; range = 1; depth = 12; bytes = 5; offset0 = 0; offset1 = 12; offset2 = 24 };
+      width = 720;
+      height = 576;
+      item = 8;
+      access = 1;
+    }
+
+-- a rewrite at an edition into so many bytes
+abbrev into : ℕ → ℕ → Rewrite
+into e bytes = record { edition = e; output = replicate bytes 9 }
+
+-- written at 2, rewritten so, read at the last edition; eight bytes are packed, and there is no place for floats
+abbrev asking : Facts → List Rewrite → ℕ → Asked
+asking f rs last = record { first = 2; facts = f; rewrites = rs; last = last; packed = replicate 8 0; values = [] }
+
+abbrev answers : Story → List Writing
+answers (ended reading decoding values) = []
+answers (rewritten answer output card s) = answer ∷ answers s
+
+-- refused rewrites leave it open; an accepted one at 1 closes it for good
+in-the-book : let refused = book (asking seven (into 3 32 ∷ into 1 31 ∷ into 2 32 ∷ []) 2) .story in
+    let through-1 = book (asking seven (into 2 32 ∷ into 1 32 ∷ into 2 32 ∷ []) 2) .story in
+    let twelve = book (asking eight (into 1 32 ∷ into 1 0 ∷ into 2 32 ∷ []) 1) .story in
+    (answers refused ≡ Refused 7 ∷ Refused 13 ∷ Done ∷ [])
+    × (readingOf refused ≡ Shown seven)
+    × (decodingOf refused ≡ LineRefused 13)
+    × (answers through-1 ≡ Done ∷ Done ∷ Done ∷ [])
+    × (readingOf through-1 ≡ Shown (withAccess seven 0))
+    × (answers twelve ≡ Refused 8 ∷ Refused 8 ∷ Done ∷ [])
+    × (readingOf twelve ≡ NotShown 8)
+    × (readingOf (book (asking seven [] 1) .story) ≡ Shown (withAccess seven 0))
+    × (readingOf (book (asking seven [] 0) .story) ≡ NotShown 7)
+unfolding book leastEdition
+in-the-book = (refl, refl, refl, refl, refl, refl, refl, refl, refl)
+
+-- and the calls do the same
+by-calls : let through-1 = calls (asking seven (into 2 32 ∷ into 3 32 ∷ into 1 32 ∷ into 2 32 ∷ []) 2) (replicate 32 9) in
+    (through-1 .answer ≡ Done)
+    × (answers (through-1 .story) ≡ Done ∷ Refused 7 ∷ Done ∷ Done ∷ [])
+    × (readingOf (through-1 .story) ≡ Shown (withAccess seven 0))
+unfolding calls cardBytes bytesOf readCard leastEdition factsValid validLayout accessOf layoutIn factsIn frontRight accessUnknown endWrong unwritable writeAnswer writeOutput rewriteAnswer rewriteOutput
+by-calls = (refl, refl, refl)

@@ -1,0 +1,4 @@
+mod Agree
+mod Means
+mod Examples
+pub mod Claims

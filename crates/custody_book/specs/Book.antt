@@ -1,0 +1,106 @@
+-- Document 01, "The book of one card" (the book is the paper's own word): what is to be seen, worked out from the first facts and the card's table alone, with no card read. Assumes nothing.
+use Prim.Native.Nat.{ℕ, _*_, _/_}
+use mathlib.Core.Bool.{Bool, not, cond, _&&_}
+use mathlib.Core.List.{List, [], _∷_}
+use lib.Dec.{eqb, ltb}
+use lib.Ieee.{Float}
+use lib.ListN.{length}
+use Rattle.layout.specs.declared.Layout.{Layout}
+use Rattle.layout.specs.Refusal.{unknownEdition, laterEdition, wrongLineOrOutput}
+use Rattle.line.specs.declared.LineAnswer.{LineAnswer}
+use Rattle.line.specs.declared.LineAnswer.the-variants.{Points, Refused as LineRefused}
+use Rattle.line.specs.Answer.{wholePoints}
+use Rattle.decoding.specs.Decode.{valuesOf}
+use Rattle.card_table.specs.declared.facts.Facts.{Facts}
+use Rattle.card_table.specs.Edition.{editionKnown, leastEdition}
+use Rattle.card_table.specs.Facts.{closed, withAccess}
+use Rattle.card_table.specs.Table.{cardSize, cardBytes}
+use Rattle.card_reader.specs.declared.Reading.{Reading}
+use Rattle.card_reader.specs.declared.Reading.the-variants.{Shown, Refused as NotShown}
+use Rattle.card_writer.specs.declared.Writing.{Writing}
+use Rattle.card_writer.specs.declared.Writing.the-variants.{Done, Refused}
+use Rattle.card_writer.specs.Writing.{kept}
+use Rattle.custody_book.specs.History.{Rewrite, Asked, Story, Story.ended, Story.rewritten, History}
+
+-- beside the first facts the book holds the card last written, and one access
+pub record Book : Type 0 where
+  pub card : List ℕ
+  pub access : ℕ
+
+-- at the start these are the table's card of the first facts, written at the first edition, and the access given
+abbrev pub startOf : ℕ → Facts → Book
+startOf e f = record { card = cardBytes e f; access = f .access }
+
+-- ---- a rewrite
+
+-- it answers 7 where there is no such edition; else 8 where the edition is under the least that reads the first layout; else 13 where the output is not as long as a card; else it is accepted
+abbrev pub bookAnswer : Facts → Rewrite → Writing
+bookAnswer f r =
+    cond (not (editionKnown (r .edition))) (Refused unknownEdition)
+    (cond (ltb (r .edition) (leastEdition (f .layout))) (Refused laterEdition)
+    (cond (not (eqb (length (r .output)) cardSize)) (Refused wrongLineOrOutput)
+    Done))
+
+-- the access that an edition leaves: closed at 1, and at 2 as it is
+abbrev pub accessAt : ℕ → ℕ → ℕ
+accessAt e access = cond (eqb e 1) closed access
+
+-- the book after an accepted rewrite: that access, and the table's card of the first facts with it, written at the rewrite's edition
+abbrev pub bookAt : ℕ → Facts → ℕ → Book
+bookAt e f access = record { card = cardBytes e (withAccess f access); access = access }
+
+-- a refused one leaves the book as it was
+abbrev pub bookAfter : Writing → Facts → Book → ℕ → Book
+bookAfter (Refused k) f b e = b
+bookAfter Done f b e = bookAt e f (accessAt e (b .access))
+
+-- ---- the last reading
+
+-- 7 and 8 as for a rewrite; else the first layout, size and item, with the book's access at 2, and closed at 1
+abbrev pub bookReading : Facts → Book → ℕ → Reading
+bookReading f b e =
+    cond (not (editionKnown e)) (NotShown unknownEdition)
+    (cond (ltb e (leastEdition (f .layout))) (NotShown laterEdition)
+    (Shown (withAccess f (accessAt e (b .access)))))
+
+-- ---- the decoding
+
+-- a captured line is of whole points of the layout, from none to 4,096
+abbrev pub captured : Layout → List ℕ → Bool
+captured l packed = wholePoints (length packed) (l .bytes)
+
+-- its count of points
+abbrev pub pointsIn : Layout → List ℕ → ℕ
+pointsIn l packed = length packed / l .bytes
+
+-- such a line, and a line of three floats a point
+abbrev pub decodable : Layout → List ℕ → List Float → Bool
+decodable l packed values = captured l packed && eqb (length values) (3 * pointsIn l packed)
+
+-- decoded by the layout of an accepted reading: 13, or the count of points; after a refused reading nothing is decoded, and its number stands
+abbrev pub bookDecoding : Reading → List ℕ → List Float → LineAnswer
+bookDecoding (NotShown k) packed values = LineRefused k
+bookDecoding (Shown g) packed values = cond (not (decodable (g .layout) packed values)) (LineRefused wrongLineOrOutput) (Points (pointsIn (g .layout) packed))
+
+-- the floats afterwards: what was there, or the float of each code
+abbrev pub bookValues : Reading → List ℕ → List Float → List Float
+bookValues (NotShown k) packed values = values
+bookValues (Shown g) packed values = cond (not (decodable (g .layout) packed values)) values (valuesOf (g .layout) packed)
+
+-- ---- the whole
+
+abbrev pub bookEnd : Reading → List ℕ → List Float → Story
+bookEnd r packed values = ended r (bookDecoding r packed values) (bookValues r packed values)
+
+abbrev pub bookFrom : Facts → Book → List Rewrite → ℕ → List ℕ → List Float → Story
+bookFrom f b [] last packed values = bookEnd (bookReading f b last) packed values
+bookFrom f b (r ∷ rs) last packed values =
+    let answer = bookAnswer f r in
+    let b′ = bookAfter answer f b (r .edition) in
+    rewritten answer (kept answer (r .output) (b′ .card)) (b′ .card) (bookFrom f b′ rs last packed values)
+
+-- the first writing is accepted, and leaves the first card
+unfoldable pub book : Asked → History
+book a =
+    let b = startOf (a .first) (a .facts) in
+    record { answer = Done; card = b .card; story = bookFrom (a .facts) b (a .rewrites) (a .last) (a .packed) (a .values) }

@@ -1,0 +1,5 @@
+pub mod History
+pub mod Book
+pub mod Calls
+pub mod Meaning
+pub mod Claims

@@ -1,0 +1,12 @@
+-- What only private functions cite. Assumes nothing.
+use Prim.Native.Nat.{ℕ}
+use lib.Ieee.{Float}
+use Rattle.layout.specs.declared.Layout.{Layout}
+use Rattle.layout.specs.Layout.{offsetOf}
+use Rattle.quantization.specs.Value.{valueOf}
+use Rattle.quantization.specs.Answer.{scaleAt}
+use Rattle.line.specs.Point.{bits}
+
+-- the value of channel j of a point whose number is v
+abbrev pub fieldValue : Layout → ℕ → ℕ → Float
+fieldValue l v j = valueOf (scaleAt l j) (bits (l .depth) (offsetOf l j) v)

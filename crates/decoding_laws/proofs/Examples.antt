@@ -1,0 +1,40 @@
+-- Worked examples: one point decoded, and encoded again without the bits that no field uses; bytes that are refused. Assumes nothing.
+use Prim.Native.Nat.{ℕ}
+use mathlib.Core.Path.{_≡_, refl}
+use mathlib.Core.List.{List, [], _∷_}
+use lib.Ieee.{binary32, ofBits, round}
+use Rattle.lists.specs.Lists.{tabulate}
+use Rattle.lists.specs.Bytes.{little}
+use Rattle.layout.specs.declared.Layout.{Layout}
+use Rattle.layout.specs.Layout.{validLayout}
+use Rattle.quantization.specs.Scale.{scaleOf}
+use Rattle.quantization.specs.Value.{nearestFloat, valueOf}
+use Rattle.quantization.specs.Code.{codeOfValue, codeOf}
+use Rattle.line.specs.declared.LineAnswer.the-variants.{Points, Refused as LineRefused}
+use Rattle.line.specs.Point.{pointOf}
+use Rattle.line.specs.Line.{codeAt, joined, byteAt, packedOf}
+use Rattle.line.specs.Answer.{unpackAnswer}
+use Rattle.packing.specs.Encode.{valueCode, quantizedOf}
+use Rattle.decoding.specs.declared.DecodedPoint.the-variants.{Decoded, Refused}
+use Rattle.decoding.specs.Decode.{valueAt, valuesOf, decodeAnswer, firstPoint, decodePoint}
+
+-- Y', Cb, Cr of 10 bits in four bytes, Cb lowest and then Y', narrow range, BT.2020
+abbrev ten : Layout
+ten = record { model = 2; primaries = 4; range = 1; depth = 10; bytes = 4; offset0 = 10; offset1 = 0; offset2 = 20 }
+
+-- white with the most Cr and the least Cb, and ones in the two bits that no field uses
+abbrev white : List ℕ
+white = 64 ∷ 176 ∷ 14 ∷ 252 ∷ []
+
+-- 1.0, -0.5 and 0.5, and from there the bytes without the two bits; then lengths that are none of a point, or of a line
+examples : (valuesOf ten white ≡ ofBits binary32 1065353216 ∷ ofBits binary32 3204448256 ∷ ofBits binary32 1056964608 ∷ [])
+    × (packedOf ten (quantizedOf ten (valuesOf ten white)) ≡ 64 ∷ 176 ∷ 14 ∷ 60 ∷ [])
+    × (decodePoint ten white ≡ Decoded (record { channel0 = ofBits binary32 1065353216; channel1 = ofBits binary32 3204448256; channel2 = ofBits binary32 1056964608 }))
+    × (decodePoint ten [] ≡ Refused 13)
+    × (decodePoint ten (0 ∷ white) ≡ Refused 13)
+    × (decodePoint (record { model = 2; primaries = 4; range = 1; depth = 10; bytes = 4; offset0 = 10; offset1 = 1; offset2 = 20 }) [] ≡ Refused 9)
+    × (decodeAnswer ten 0 0 ≡ Points 0)
+    × (decodeAnswer ten 16384 12288 ≡ Points 4096)
+    × (decodeAnswer ten 16388 12291 ≡ LineRefused 13)
+unfolding tabulate little validLayout scaleOf nearestFloat valueOf codeOfValue codeOf pointOf codeAt joined byteAt packedOf unpackAnswer valueCode quantizedOf valueAt valuesOf firstPoint decodePoint round ofBits
+examples = (refl, refl, refl, refl, refl, refl, refl, refl, refl)

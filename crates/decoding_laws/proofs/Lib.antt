@@ -1,0 +1,3 @@
+mod Values
+mod Examples
+pub mod Claims

@@ -1,0 +1,1 @@
+// What the definitions of decoding amount to: statements (specs/) and their proofs (proofs/). No code.

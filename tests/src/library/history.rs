@@ -1,0 +1,86 @@
+//! The function of the C interface on the history of a card.
+
+use reference::card::Facts;
+
+use crate::guarded::Guarded;
+
+/// What a replay is given, and then leaves. All memory lies among guards.
+#[derive(Clone, PartialEq)]
+pub struct Replaying {
+    pub first: u8,
+    pub facts: Facts,
+    pub layout: Guarded<u8>,
+    pub card: Guarded<u8>,
+    pub editions: Guarded<u8>,
+    pub lengths: Guarded<u64>,
+    pub outputs: Guarded<u8>,
+    pub answers: Guarded<u8>,
+    pub last: u8,
+    pub packed: Guarded<u8>,
+    /// The bits of floats.
+    pub values: Guarded<u32>,
+    pub read: Guarded<u64>,
+    pub decoded: Guarded<u64>,
+}
+
+pub type Replay = fn(&mut Replaying) -> i64;
+
+extern "C" {
+    fn imurraqi_replay(
+        first: u8,
+        layout: *const u8,
+        width: u16,
+        height: u16,
+        item: u64,
+        access: u8,
+        card: *mut u8,
+        card_length: usize,
+        editions: *const u8,
+        editions_length: usize,
+        lengths: *const usize,
+        lengths_length: usize,
+        outputs: *mut u8,
+        outputs_length: usize,
+        answers: *mut u8,
+        answers_length: usize,
+        last: u8,
+        packed: *const u8,
+        packed_length: usize,
+        values: *mut f32,
+        values_length: usize,
+        read: *mut u64,
+        decoded: *mut u64,
+    ) -> i64;
+}
+
+pub fn replay(asked: &mut Replaying) -> i64 {
+    // SAFETY: the pointers are to as many elements as the lengths say, eight for
+    // the layout, thirteen and two for the last, and nothing else uses them.
+    unsafe {
+        imurraqi_replay(
+            asked.first,
+            asked.layout.pointer(),
+            asked.facts.width,
+            asked.facts.height,
+            asked.facts.item,
+            asked.facts.access,
+            asked.card.pointer(),
+            asked.card.length(),
+            asked.editions.pointer(),
+            asked.editions.length(),
+            asked.lengths.pointer().cast(),
+            asked.lengths.length(),
+            asked.outputs.pointer(),
+            asked.outputs.length(),
+            asked.answers.pointer(),
+            asked.answers.length(),
+            asked.last,
+            asked.packed.pointer(),
+            asked.packed.length(),
+            asked.values.pointer().cast(),
+            asked.values.length(),
+            asked.read.pointer(),
+            asked.decoded.pointer(),
+        )
+    }
+}

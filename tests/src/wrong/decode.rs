@@ -1,0 +1,266 @@
+//! Mistakes in decoding a line or a point.
+
+use reference::lines;
+use reference::refusal::Refusal;
+
+use crate::guarded::Guarded;
+use crate::layouts::{bytes_a_point, DEPTH, OFFSETS, PRIMARIES, RANGE};
+use crate::library::{Layout, Library};
+use crate::lines::{answer, expected_decode_line, expected_decode_point};
+use crate::plain::lines::decoded;
+use crate::plain::quantization::line;
+use crate::quantization::refused;
+
+use super::points::keeping_from;
+use super::{Wrong, REFERENCE};
+
+pub const WRONG: &[Wrong] = &[
+    // Which points.
+    decodes("only the first point decoded", |layout, packed, out| {
+        keeping_from(3, out, |out| expected_decode_line(layout, packed, out))
+    }),
+    decodes(
+        "the first point decoded, the rest zeros",
+        |layout, packed, out| {
+            let count = expected_decode_line(layout, packed, out);
+            if count > 1 {
+                out.output()[3..].fill(0);
+            }
+            count
+        },
+    ),
+    decodes("point 4,096 left out", |layout, packed, out| {
+        keeping_from(3 * 4095, out, |out| {
+            expected_decode_line(layout, packed, out)
+        })
+    }),
+    // Which bits.
+    decodes(
+        "a field's offset taken for its neighbour's, decoding",
+        |layout, packed, out| {
+            let [_, _, _, _, _, first, second, third] = layout;
+            let mut exchanged = layout;
+            exchanged[OFFSETS..].copy_from_slice(&[first, third, second]);
+            expected_decode_line(exchanged, packed, out)
+        },
+    ),
+    decodes("big-endian points decoded", |layout, packed, out| {
+        let mut turned = packed.to_vec();
+        if let 3..=8 = bytes_a_point(layout) {
+            let points = turned.chunks_mut(bytes_a_point(layout));
+            points.for_each(<[u8]>::reverse);
+        }
+        expected_decode_line(layout, &turned, out)
+    }),
+    // Values.
+    decodes("a constant float", |layout, packed, out| {
+        let count = expected_decode_line(layout, packed, out);
+        if count > 0 {
+            out.output().fill(0.5f32.to_bits());
+        }
+        count
+    }),
+    decodes(
+        "all channels on the scale of channel 0, decoding",
+        |layout, packed, out| {
+            let mut without_differences = layout;
+            if let [2, ..] = layout {
+                without_differences[0] = 1;
+            }
+            expected_decode_line(without_differences, packed, out)
+        },
+    ),
+    decodes("the other range", |layout, packed, out| {
+        let mut other = layout;
+        if let 1 | 2 = layout[RANGE] {
+            other[RANGE] = 3 - layout[RANGE];
+        }
+        expected_decode_line(other, packed, out)
+    }),
+    decodes("a product with the reciprocal", |layout, packed, out| {
+        decoded(layout, packed, out, line, |p, q| p * (1.0 / q))
+    }),
+    decodes("128 as the base at every depth", |layout, packed, out| {
+        decoded(
+            layout,
+            packed,
+            out,
+            |scale| match line(scale) {
+                (span, base) if base == 1 << (scale.depth - 1) => (span, 128),
+                usual => usual,
+            },
+            |p, q| p / q,
+        )
+    }),
+    decodes("zero as minus zero", |layout, packed, out| {
+        let count = expected_decode_line(layout, packed, out);
+        if count > 0 {
+            let zeros = out.output().iter_mut().filter(|bits| **bits == 0);
+            zeros.for_each(|bits| *bits = (-0.0f32).to_bits());
+        }
+        count
+    }),
+    decodes_points(
+        "a point's values in another order, decoding",
+        |layout, bytes, out| {
+            let answer = expected_decode_point(layout, bytes, out);
+            if answer == 1 {
+                out.output().reverse();
+            }
+            answer
+        },
+    ),
+    // Counts.
+    decodes(
+        "a count of its own invention",
+        |layout, packed, out| match expected_decode_line(layout, packed, out) {
+            0.. => out.length() as i64,
+            refusal => refusal,
+        },
+    ),
+    decodes(
+        "an empty line refused, decoding",
+        |layout, packed, out| match expected_decode_line(layout, packed, out) {
+            0 => refused(Refusal::Length),
+            answer => answer,
+        },
+    ),
+    decodes_points("0 answered for a point, decoding", |layout, bytes, out| {
+        expected_decode_point(layout, bytes, out).min(0)
+    }),
+    // Refusal 13.
+    decodes("4,097 points decoded", |layout, packed, out| {
+        let [most, one_more] = [4096, 4097].map(|points| points * bytes_a_point(layout));
+        match expected_decode_line(layout, packed, out) {
+            -13 if packed.len() == one_more && out.length() == 3 * 4097 => {
+                let (values, last) = out.output().split_at_mut(3 * 4096);
+                answer(lines::decode_line(layout, &packed[..most], values))
+                    + answer(lines::decode_line(layout, &packed[most..], last))
+            }
+            answer => answer,
+        }
+    }),
+    decodes(
+        "a last part of a point passed over, decoding",
+        |layout, packed, out| {
+            let rest = match bytes_a_point(layout) {
+                0 => 0,
+                size => packed.len() % size,
+            };
+            expected_decode_line(layout, &packed[..packed.len() - rest], out)
+        },
+    ),
+    decodes(
+        "a too short output filled, decoding",
+        |layout, packed, out| match expected_decode_line(layout, packed, out) {
+            -13 => {
+                let mut longer = Guarded::new(3 * (packed.len() / bytes_a_point(layout)));
+                let count = expected_decode_line(layout, packed, &mut longer);
+                let length = longer.length().min(out.length());
+                out.output()[..length].copy_from_slice(&longer.output()[..length]);
+                count
+            }
+            answer => answer,
+        },
+    ),
+    decodes_points("the first of two points decoded", |layout, bytes, out| {
+        match expected_decode_point(layout, bytes, out) {
+            -13 if bytes.len() == 2 * bytes_a_point(layout) => {
+                expected_decode_point(layout, &bytes[..bytes.len() / 2], out)
+            }
+            answer => answer,
+        }
+    }),
+    decodes_points(
+        "no bytes taken for a point",
+        |layout, bytes, out| match expected_decode_point(layout, bytes, out) {
+            -13 if bytes.is_empty() => 0,
+            answer => answer,
+        },
+    ),
+    // Memory on a refusal.
+    decodes(
+        "cleared before 13 is found",
+        |layout, packed, out| match expected_decode_line(layout, packed, out) {
+            -13 => {
+                out.output().fill(0);
+                refused(Refusal::Length)
+            }
+            answer => answer,
+        },
+    ),
+    decodes(
+        "not-a-numbers in the output made quiet",
+        |layout, packed, out| match expected_decode_line(layout, packed, out) {
+            refusal @ ..0 => {
+                out.output().iter_mut().for_each(|bits| *bits |= 1 << 22);
+                refusal
+            }
+            answer => answer,
+        },
+    ),
+    decodes_points(
+        "a point cleared before 13 is found",
+        |layout, bytes, out| match expected_decode_point(layout, bytes, out) {
+            -13 => {
+                out.output().fill(0);
+                refused(Refusal::Length)
+            }
+            answer => answer,
+        },
+    ),
+    // The order of refusals.
+    decodes("13 before 9, decoding", |layout, packed, out| {
+        match packed.len() == out.length() / 3 * bytes_a_point(layout) {
+            true => expected_decode_line(layout, packed, out),
+            false => refused(Refusal::Length),
+        }
+    }),
+    decodes_points(
+        "13 before 9, decoding a point",
+        |layout, bytes, out| match bytes.len() == bytes_a_point(layout) {
+            true => expected_decode_point(layout, bytes, out),
+            false => refused(Refusal::Length),
+        },
+    ),
+    // Layouts.
+    decodes(
+        "primaries not looked at, decoding",
+        |layout, packed, out| {
+            let mut changed = layout;
+            changed[PRIMARIES] = 1;
+            expected_decode_line(changed, packed, out)
+        },
+    ),
+    decodes_points("9 bits taken for 8", |layout, bytes, out| {
+        let mut changed = layout;
+        if layout[DEPTH] == 9 {
+            changed[DEPTH] = 8;
+        }
+        expected_decode_point(changed, bytes, out)
+    }),
+    decodes("everything refused", |_, _, _| refused(Refusal::Outside)),
+    decodes_points("every point refused", |_, _, _| refused(Refusal::Outside)),
+];
+
+const fn decodes(
+    mistake: &'static str,
+    decode_line: fn(Layout, &[u8], &mut Guarded<u32>) -> i64,
+) -> Wrong {
+    let library = Library {
+        decode_line,
+        ..REFERENCE
+    };
+    (mistake, library)
+}
+
+const fn decodes_points(
+    mistake: &'static str,
+    decode_point: fn(Layout, &[u8], &mut Guarded<u32>) -> i64,
+) -> Wrong {
+    let library = Library {
+        decode_point,
+        ..REFERENCE
+    };
+    (mistake, library)
+}

@@ -1,0 +1,189 @@
+//! Mistakes that the history of a card shows.
+
+use reference::card;
+use reference::refusal::Refusal;
+
+use crate::card::{expected_read, expected_rewrite, expected_write, ACCESS, LEAST, WRITTEN};
+use crate::guarded::Guarded;
+use crate::history::replays::expected_replay;
+use crate::library::card::{CardRead, CardRewrite};
+use crate::library::history::Replay;
+use crate::library::Library;
+use crate::lines::expected_decode_line;
+use crate::quantization::refused;
+
+use super::{Wrong, REFERENCE};
+
+pub const WRONG: &[Wrong] = &[
+    rewrites("all rewrites refused", |_, _, _| refused(Refusal::Length)),
+    rewrites("a rewriter that copies bytes", |card, edition, out| {
+        accepted(card, edition, out, |card, out| out.copy_from_slice(card))
+    }),
+    rewrites("rewrites that close everything", |card, edition, out| {
+        accepted(card, edition, out, |_, out| out[ACCESS] = 0)
+    }),
+    rewrites("access kept through edition 1", |card, edition, out| {
+        accepted(card, edition, out, |card, out| out[ACCESS] = card[ACCESS])
+    }),
+    rewrites("byte 0 set to the edition", |card, edition, out| {
+        accepted(card, edition, out, |_, out| out[LEAST] = edition)
+    }),
+    rewrites("the first writer's edition kept", |card, edition, out| {
+        accepted(card, edition, out, |card, out| out[WRITTEN] = card[WRITTEN])
+    }),
+    rewrites("edition 3 rewrites as 2", |card, edition, out| {
+        let edition = if edition == 3 { 2 } else { edition };
+        expected_rewrite(card, edition, out)
+    }),
+    rewrites("edition 255 rewrites as 1", |card, edition, out| {
+        let edition = if edition == 255 { 1 } else { edition };
+        expected_rewrite(card, edition, out)
+    }),
+    rewrites("13 before 8", |card, edition, out| {
+        match expected_rewrite(card, edition, out) {
+            -8 if out.length() != card.length() => refused(Refusal::Length),
+            answer => answer,
+        }
+    }),
+    rewrites("a refused rewrite stores", |card, edition, out| {
+        let answer = expected_rewrite(card, edition, out);
+        if answer != 0 && out.length() > 0 {
+            out.output()[0] = 0;
+        }
+        answer
+    }),
+    rewrites("the card is written over", |card, edition, out| {
+        let answer = expected_rewrite(card, edition, out);
+        if answer == 0 {
+            card.output()[ACCESS] = 0;
+        } else if edition == 1 {
+            card.output()[ACCESS] = 2;
+        }
+        answer
+    }),
+    reads("byte 24 shown at edition 1", |card, edition, told| {
+        let access = card.elements()[ACCESS];
+        let answer = expected_read(card, edition, told);
+        if answer == 0 {
+            told.facts.output()[3] = access.into();
+        }
+        answer
+    }),
+    reads("reading at edition 4 as at 2", |card, edition, told| {
+        let edition = if edition == 4 { 2 } else { edition };
+        expected_read(card, edition, told)
+    }),
+    replays("the first card kept", |asked| {
+        let answer = expected_replay(asked);
+        if answer == 0 {
+            let _ = card::write(asked.first, asked.facts, asked.card.output());
+        }
+        answer
+    }),
+    replays("read at the first edition", |asked| {
+        let last = asked.last;
+        asked.last = asked.first;
+        let answer = expected_replay(asked);
+        asked.last = last;
+        answer
+    }),
+    replays("the last answer not stored", |asked| {
+        let before = asked.answers.elements().last().copied();
+        let answer = expected_replay(asked);
+        if let (Some(last), Some(before)) = (asked.answers.output().last_mut(), before) {
+            *last = before;
+        }
+        answer
+    }),
+    replays("stored before 13 is found", |asked| {
+        let answer = expected_replay(asked);
+        if answer == -13 {
+            let _ = card::write(asked.first, asked.facts, asked.card.output());
+        }
+        answer
+    }),
+    replays("a refused reading's line decoded", |asked| {
+        let answer = expected_replay(asked);
+        if answer == 0 && asked.read.elements()[0] != 0 {
+            let _ = expected_decode_line(
+                asked.facts.layout,
+                asked.packed.elements(),
+                &mut asked.values,
+            );
+        }
+        answer
+    }),
+    (
+        "decoded with the first two channels exchanged",
+        Library {
+            decode_line: |layout, packed, values| {
+                let [model, primaries, range, depth, bytes, a, b, c] = layout;
+                let layout = [model, primaries, range, depth, bytes, b, a, c];
+                expected_decode_line(layout, packed, values)
+            },
+            ..REFERENCE
+        },
+    ),
+    (
+        "a count of three bytes a point",
+        Library {
+            decode_line: |layout, packed, values| match expected_decode_line(layout, packed, values)
+            {
+                1.. => packed.len() as i64 / 3,
+                answer => answer,
+            },
+            ..REFERENCE
+        },
+    ),
+    (
+        "first written at 2 whatever the edition",
+        Library {
+            card_write: |_, facts, out| expected_write(2, facts, out),
+            ..REFERENCE
+        },
+    ),
+];
+
+const fn rewrites(mistake: &'static str, card_rewrite: CardRewrite) -> Wrong {
+    (
+        mistake,
+        Library {
+            card_rewrite,
+            ..REFERENCE
+        },
+    )
+}
+
+const fn reads(mistake: &'static str, card_read: CardRead) -> Wrong {
+    (
+        mistake,
+        Library {
+            card_read,
+            ..REFERENCE
+        },
+    )
+}
+
+const fn replays(mistake: &'static str, replay: Replay) -> Wrong {
+    (
+        mistake,
+        Library {
+            replay,
+            ..REFERENCE
+        },
+    )
+}
+
+/// A rewrite whose output is changed once it is accepted.
+fn accepted(
+    card: &mut Guarded<u8>,
+    edition: u8,
+    out: &mut Guarded<u8>,
+    change: impl FnOnce(&[u8], &mut [u8]),
+) -> i64 {
+    let answer = expected_rewrite(card, edition, out);
+    if answer == 0 {
+        change(card.elements(), out.output());
+    }
+    answer
+}
