@@ -3,3 +3,4 @@ mod OneRewrite
 mod Going
 mod Last
 pub mod Whole
+pub mod Claims

@@ -1,3 +1,4 @@
 pub mod Lists
 pub mod Replay
 pub mod Rewriting
+pub mod Claims

@@ -6,7 +6,7 @@ ghost use Rattle.custody.specs.Lists.{sum};
 ghost use Rattle.custody.specs.Replay.{fitting};
 use card::Card;
 
-// Whether the lengths are so many in all. No sum is made, as it could be too large.
+// Whether the lengths add up to the total. They are taken off it one by one, as their sum could be too large.
 fn fill(lengths: &[usize], total: usize) -> bool
     ensures { λ r. ⌜ r ≡ eqb (sum (now (lengths .entry))) total ⌝ }
 {

@@ -77,7 +77,7 @@ pointsIn l packed = length packed / l .bytes
 abbrev pub decodable : Layout → List ℕ → List Float → Bool
 decodable l packed values = captured l packed && eqb (length values) (3 * pointsIn l packed)
 
--- decoded by the layout of an accepted reading: 13, or the count of points; after a refused reading nothing is decoded, and its number stands
+-- decoded by the layout of an accepted reading: 13, also of a line that is not captured, or the count of points. (The paper decodes nothing after a refused reading; that its number then stands here too is our own choice)
 abbrev pub bookDecoding : Reading → List ℕ → List Float → LineAnswer
 bookDecoding (NotShown k) packed values = LineRefused k
 bookDecoding (Shown g) packed values = cond (not (decodable (g .layout) packed values)) (LineRefused wrongLineOrOutput) (Points (pointsIn (g .layout) packed))

@@ -13,7 +13,7 @@ use Rattle.card_writer.specs.Writing.{kept, writeAnswer, writeOutput}
 use Rattle.card.specs.Rewriting.{rewriteAnswer, rewriteOutput}
 use Rattle.custody_book.specs.History.{Rewrite, Asked, Story, Story.ended, Story.rewritten, History}
 
--- decoding by the layout that a reading shows; a refused one decodes nothing, and its number stands
+-- decoding by the layout that a reading shows; after a refused one nothing is decoded, and its number stands (our own choice)
 abbrev pub thenDecode : Reading → ℕ → ℕ → LineAnswer
 thenDecode (NotShown k) bytes floats = LineRefused k
 thenDecode (Shown g) bytes floats = decodeAnswer (g .layout) bytes floats

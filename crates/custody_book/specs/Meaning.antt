@@ -9,6 +9,7 @@ use lib.ListN.{length, getD}
 use Rattle.lists.specs.Bytes.{areBytes}
 use Rattle.layout.specs.declared.Layout.{Layout}
 use Rattle.layout.specs.Layout.{kindOf}
+use Rattle.layout.specs.Refusal.{wrongLineOrOutput}
 use Rattle.quantization.specs.Answer.{named, dequantized}
 use Rattle.line.specs.declared.LineAnswer.{LineAnswer}
 use Rattle.line.specs.declared.LineAnswer.the-variants.{Points, Refused as LineRefused}
@@ -81,7 +82,7 @@ abbrev pub atTwo : Writing → ℕ → Bool
 atTwo Done e = eqb e 2
 atTwo (Refused k) e = true
 
--- every accepted rewrite was at edition 2
+-- every accepted rewrite was at edition 2 (a story is never shorter than its rewrites: `EachRight`)
 abbrev pub allAtTwo : List Rewrite → Story → Bool
 allAtTwo [] s = true
 allAtTwo (r ∷ rs) (ended reading decoding values) = true
@@ -110,7 +111,7 @@ pub record DecodingRight (a : Asked) (s : Story) : Type 0 where
       dequantized (l .model) (l .range) (l .depth) (k % 3) (codeAt l (a .packed) k) ≡ named (kindOf (l .model) (k % 3)) (getD (valuesAfter s) k nan)
   -- into a line of any other length: 13, and nothing is changed
   pub misfit : (g : Facts) → readingOf s ≡ Shown g → eqb (length (a .values)) (3 * pointsIn (a .facts .layout) (a .packed)) ≡ false
-      → (decodingOf s ≡ LineRefused 13) × (valuesAfter s ≡ a .values)
+      → (decodingOf s ≡ LineRefused wrongLineOrOutput) × (valuesAfter s ≡ a .values)
 
 -- ---- the whole
 
