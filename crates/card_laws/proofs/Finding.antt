@@ -1,24 +1,22 @@
 -- The claims of specs/Finding.antt: the test of the search, in plain words. Assumes nothing.
-use Prim.Native.Nat.{ℕ, _≤_, _<_}
+use Prim.Native.Nat.{ℕ, _<_}
 use mathlib.Core.Bool.{Bool, true, false, not}
-use mathlib.Core.Path.{_≡_, refl, sym, ap, _∙_}
+use mathlib.Core.Path.{_≡_, refl, ap, _∙_}
 use mathlib.Core.List.{List}
 use native.Mathlib.Omega.{arith}
 use borrow.Author.Tests.{eq-eqb, eqb-true}
 use lib.Dec.{eqb}
 use lib.ListN.{length, length-take, length-drop}
-use Rattle.card_table.specs.declared.facts.Facts.{Facts}
-use Rattle.card_table.specs.Edition.{editionKnown}
 use Rattle.card_reader.specs.declared.Reading.{Reading}
 use Rattle.card_reader.specs.declared.Reading.the-variants.{Shown, Refused as NotShown}
 use Rattle.card_reader.specs.Reading.{readCard}
 use Rattle.layout.specs.Refusal.{wrongLength, unknownEdition, noItem}
 use Rattle.stack.specs.declared.Found.the-variants.{Refused}
-use Rattle.stack.specs.Stack.{cardsIn, wholeStack, cardAt}
+use Rattle.stack.specs.Stack.{cardsIn, cardAt}
 use Rattle.stack.specs.Finding.{shownItem, hasItem, located}
-use Rattle.stack.proofs.First.{FirstIs, first-is, none-is, is-first, is-none}
+use Rattle.stack.proofs.First.{first-is, none-is, is-first, is-none}
 use Rattle.stack.proofs.Answers.{located-first, searched, searched-at, located-in}
-use Rattle.card_laws.specs.Finding.{Has, FirstCard, LocatesTheFirst, LocatesIt, NoneWhere15, FifteenWhereNone, FindsWholeCards}
+use Rattle.card_laws.specs.Finding.{Has, LocatesTheFirst, LocatesIt, NoneWhere15, FifteenWhereNone, FindsWholeCards}
 
 shown : (s : List ℕ) (e item k : ℕ) → k < cardsIn (length s) → (r : Reading) → readCard (cardAt s k) e ≡ r → shownItem item r ≡ true → Has s e item k
 shown s e item k h (Shown f) q t = record { inside = h; facts = f; shown = q; number = eqb-true _ _ t }

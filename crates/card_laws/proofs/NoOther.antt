@@ -1,12 +1,12 @@
 -- Bytes that are shown, and were not written later than they are read, are the table's card. Assumes nothing.
 use Prim.Native.Nat.{ℕ, zero, suc, _+_, _*_, _/_, _%_, _≤_, _<_}
 use mathlib.Core.Bool.{Bool, true, false, not, cond, _&&_, _||_}
-use mathlib.Core.Path.{_≡_, refl, sym, ap, _∙_, subst}
+use mathlib.Core.Path.{_≡_, refl, sym, ap, _∙_}
 use mathlib.Core.List.{List, [], _∷_, _++_}
 use native.Mathlib.Omega.{arith}
 use borrow.Author.Tests.{eqb-true, leb-true, ltb-true, le-leb, not-false}
 use lib.Dec.{eqb, leb, ltb}
-use lib.ListN.{length, getD}
+use lib.ListN.{getD}
 use Rattle.lists.specs.Lists.{tabulate, every}
 use Rattle.lists.specs.Bytes.{areBytes, bytesOf, numberAt}
 use Rattle.lists.proofs.Lists.{is-tabulate}
@@ -15,7 +15,7 @@ use Rattle.card_table.specs.declared.facts.Facts.{Facts}
 use Rattle.card_table.specs.Edition.{hasAccess, leastEdition}
 use Rattle.card_table.specs.Facts.{closed, accessKnown, factsValid}
 use Rattle.card_table.specs.Table.{cardSize, cardBytes}
-use Rattle.card_reader.specs.Reading.{writerOf, accessOf, layoutIn, factsIn, frontRight, tableHolds, accessUnknown, endWrong}
+use Rattle.card_reader.specs.Reading.{writerOf, accessOf, layoutIn, factsIn, frontRight, accessUnknown, endWrong}
 use Rattle.card_reader.proofs.Shown.{Accepted}
 use Rattle.card_laws.proofs.Valid.{or-left}
 

@@ -1,8 +1,8 @@
 -- The claims of specs/Claims.antt. Assumes nothing.
 use Prim.Native.Nat.{ℕ, _+_}
-use mathlib.Core.Bool.{Bool, true, false, _&&_}
-use mathlib.Core.Path.{_≡_, refl, sym, ap, ap₂, _∙_, subst}
-use mathlib.Core.List.{List, [], _∷_, _++_}
+use mathlib.Core.Bool.{Bool, _&&_}
+use mathlib.Core.Path.{_≡_, refl, sym, ap, _∙_, subst}
+use mathlib.Core.List.{List, [], _∷_}
 use native.Mathlib.Omega.{arith}
 use borrow.Author.Tests.{eq-eqb}
 use lib.Dec.{eqb}
@@ -17,7 +17,7 @@ use Rattle.custody_book.specs.History.{Rewrite}
 use Rattle.custody_book.specs.Meaning.{Meaning}
 use Rattle.custody_book.proofs.Claims.{agrees, means}
 use Rattle.custody.specs.Lists.{sum, rewritesOf}
-use Rattle.custody.specs.Replay.{Given, askedBy, fitting, thenFitting, beginning}
+use Rattle.custody.specs.Replay.{askedBy, fitting, thenFitting, beginning}
 use Rattle.custody.specs.Claims.{editionsIn, lengthsIn, outputsIn, AsksAnyList, FitsAnyList, ReplaysAsMeant}
 
 pub asks-any-list : AsksAnyList

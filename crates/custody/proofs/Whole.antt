@@ -16,7 +16,6 @@ use Rattle.card_writer.specs.Writing.{writeAnswer, writeOutput}
 use Rattle.card.specs.Rewriting.{rewriteAnswer, rewriteOutput}
 use Rattle.card_laws.proofs.Claims.{writes-no-other}
 use Rattle.custody_book.specs.History.{Rewrite, Story, History}
-use Rattle.custody_book.specs.Book.{book}
 use Rattle.custody_book.specs.Calls.{thenDecode, thenValues, cardAfter, callsFrom, calls}
 use Rattle.custody_book.specs.Meaning.{readingOf, decodingOf, valuesAfter}
 use Rattle.custody_book.proofs.Claims.{agrees}

@@ -9,7 +9,6 @@ use native.Mathlib.Omega.{arith}
 use borrow.Author.Tests.{leb-true, lt-ltb, le-ltb}
 use lib.Dec.{eqb, leb}
 use lib.ListN.{length, length-append, take, drop}
-use lib.Seq.{take-at}
 use Rattle.lists.proofs.Tests.{and-right, pass, stop}
 use Rattle.card_table.specs.Table.{cardSize}
 use Rattle.stack.specs.Stack.{cardsIn, wholeStack, cardAt}
