@@ -93,9 +93,9 @@ int64_t imurraqi_pack_line(const uint8_t layout[8], const uint16_t *codes,
                            size_t len, uint8_t *out, size_t out_len);
 
 /* Converts a line of codes of R', G', B', three a point, to Y', Cb, Cr by the
- * weights of the primaries. range_in is the range of codes, range_out that of
- * out, which is as long; the two may be the same. Answers the count of points.
- * Refused: 9, then 13, then 14. */
+ * weights of the primaries, into an array of the same length. range_in is the
+ * range of codes, range_out that of out: one range, or two. Answers the count of
+ * points. Refused: 9, then 13, then 14. */
 int64_t imurraqi_rgb_to_ycbcr(uint8_t primaries, uint8_t depth,
                               uint8_t range_in, uint8_t range_out,
                               const uint16_t *codes, size_t len, uint16_t *out,
