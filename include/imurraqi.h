@@ -1,7 +1,7 @@
 /* The C interface of libimurraqi.a.
  *
  * Every function answers a number of 0 or more, or minus the number of its
- * refusal (document 01: -1 .. -15). On a refusal nothing behind any pointer
+ * refusal (-1 .. -15, see below). On a refusal nothing behind any pointer
  * changes. docs/PROMISES.md says what is proved of each function.
  *
  * An array of any length is a pointer and then its length in elements. No
@@ -9,7 +9,28 @@
  * overlaps nothing else that it is given.
  *
  * A layout is eight bytes, in this order: model, primaries, range, depth, bytes
- * a point, and the bit offsets of channels 0, 1 and 2. */
+ * a point, and the bit offsets of channels 0, 1 and 2.
+ *
+ *   model      1 R'G'B', 2 Y'CbCr
+ *   primaries  1 BT.709, 2 BT.601 EBU, 3 BT.601 SMPTE, 4 BT.2020
+ *   range      1 narrow, 2 full
+ *   depth      8, 10 or 12 bits a channel
+ *   bytes      3 to 8
+ *
+ * Refusals:
+ *
+ *    1  wrong length of a descriptor (76), a card (32) or a stack (whole cards,
+ *       1,024 at most)
+ *    2  wrong header of a descriptor    3  wrong model or colors in it
+ *    4  wrong planes in it              5  wrong sample in it
+ *    6  its samples state no one range
+ *    7  unknown edition: not 1 or 2     8  a card for later editions only
+ *    9  a number, field or layout that is none of these
+ *   10  unknown access in a card       11  edition 1 can't write it
+ *   12  not-a-number
+ *   13  a line not of whole points or of over 4,096, or an output not exactly
+ *       as long as needed
+ *   14  a code too high for its depth  15  no such item */
 #ifndef IMURRAQI_H
 #define IMURRAQI_H
 
@@ -72,9 +93,9 @@ int64_t imurraqi_pack_line(const uint8_t layout[8], const uint16_t *codes,
                            size_t len, uint8_t *out, size_t out_len);
 
 /* Converts a line of codes of R', G', B', three a point, to Y', Cb, Cr by the
- * weights of the primaries. range_in is the range of codes, range_out that of
- * out, which is as long; the two may be the same. Answers the count of points.
- * Refused: 9, then 13, then 14. */
+ * weights of the primaries, into an array of the same length. range_in is the
+ * range of codes, range_out that of out: one range, or two. Answers the count of
+ * points. Refused: 9, then 13, then 14. */
 int64_t imurraqi_rgb_to_ycbcr(uint8_t primaries, uint8_t depth,
                               uint8_t range_in, uint8_t range_out,
                               const uint16_t *codes, size_t len, uint16_t *out,

@@ -2,14 +2,15 @@
 
 use std::f32::consts::TAU;
 
-use crate::color;
-use crate::layout::Numbers;
-use crate::plain;
+use crate::plain::colors;
+use crate::plain::layout::Numbers;
+use crate::plain::lines;
+use crate::random::Random;
 
 pub const POINTS: usize = 4096;
 
 /// One line in its three forms.
-pub struct Line {
+pub struct Forms {
     pub values: Vec<f32>,
     pub codes: Vec<u16>,
     pub packed: Vec<u8>,
@@ -18,7 +19,7 @@ pub struct Line {
 /// Slow waves, a little beyond the range here and there, as Y'CbCr values: the
 /// first of three from 0 to 1, the others around 0. Codes and packed bytes are
 /// theirs.
-pub fn smooth(layout: Numbers) -> Line {
+pub fn smooth(layout: Numbers) -> Forms {
     let values: Vec<f32> = (0..POINTS)
         .flat_map(|point| {
             let turn = TAU * point as f32 / POINTS as f32;
@@ -30,10 +31,10 @@ pub fn smooth(layout: Numbers) -> Line {
         })
         .collect();
     let mut packed = vec![0; packed_length(layout)];
-    plain::encode_line(layout, &values, &mut packed);
+    lines::encode_line(layout, &values, &mut packed);
     let mut codes = vec![0; 3 * POINTS];
-    plain::unpack_line(layout, &packed, &mut codes);
-    Line {
+    lines::unpack_line(layout, &packed, &mut codes);
+    Forms {
         values,
         codes,
         packed,
@@ -64,7 +65,7 @@ pub fn smooth_colors(primaries: u8, depth: u8, range: u8) -> [Vec<u16>; 2] {
         })
         .collect();
     let mut ycbcr = vec![0; rgb.len()];
-    color::rgb_to_ycbcr([primaries, depth, range, range], &rgb, &mut ycbcr);
+    colors::rgb_to_ycbcr([primaries, depth, range, range], &rgb, &mut ycbcr);
     [rgb, ycbcr]
 }
 
@@ -75,17 +76,11 @@ pub fn random_colors(depth: u8) -> Vec<u16> {
 }
 
 /// Floats of either sign from 2^-15 to 2, any codes, any bytes.
-pub fn random(layout: Numbers) -> Line {
+pub fn random(layout: Numbers) -> Forms {
     let [_, _, _, depth, ..] = layout;
     let mut random = Random::new();
-    Line {
-        values: (0..3 * POINTS)
-            .map(|_| {
-                let bits = random.next();
-                let field = 112 + (bits >> 23) % 16;
-                f32::from_bits(bits & 0x807f_ffff | field << 23)
-            })
-            .collect(),
+    Forms {
+        values: (0..3 * POINTS).map(|_| random.value()).collect(),
         codes: (0..3 * POINTS).map(|_| random.code(depth)).collect(),
         packed: (0..packed_length(layout))
             .map(|_| random.next() as u8)
@@ -96,24 +91,4 @@ pub fn random(layout: Numbers) -> Line {
 pub fn packed_length(layout: Numbers) -> usize {
     let [_, _, _, _, bytes, ..] = layout;
     POINTS * usize::from(bytes)
-}
-
-/// Marsaglia's xorshift64, whose high half is used.
-struct Random(u64);
-
-impl Random {
-    fn new() -> Random {
-        Random(0x9e37_79b9_7f4a_7c15)
-    }
-
-    fn code(&mut self, depth: u8) -> u16 {
-        (self.next() >> (32 - depth)) as u16
-    }
-
-    fn next(&mut self) -> u32 {
-        self.0 ^= self.0 << 13;
-        self.0 ^= self.0 >> 7;
-        self.0 ^= self.0 << 17;
-        (self.0 >> 32) as u32
-    }
 }

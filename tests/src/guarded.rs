@@ -79,11 +79,19 @@ impl<T: Element> Guarded<T> {
         &mut self.memory[Self::GUARD..]
     }
 
-    /// A pointer to the output. It is taken from the whole memory, so that the
-    /// guards may be read afterwards even if the library has written to them.
-    pub fn pointer(&mut self) -> *mut T {
-        self.memory.as_mut_ptr().wrapping_add(Self::GUARD)
+    /// The output with the guards around it.
+    pub fn whole(&mut self) -> Whole<'_, T> {
+        Whole {
+            memory: &mut self.memory,
+            guard: Self::GUARD,
+        }
     }
+}
+
+/// Elements, and as many elements of a guard before them as after them.
+pub struct Whole<'a, T> {
+    pub memory: &'a mut [T],
+    pub guard: usize,
 }
 
 /// What a call answers, and the memory as the call leaves it.

@@ -18,9 +18,9 @@ use crate::tally::{Flow, Tally};
 pub mod replays;
 
 pub const PARTS: &[Part] = &[
+    part("histories in one call", replays::random),
     part("histories, every short one", every_short_one),
     part("histories, random", random),
-    part("histories in one call", replays::random),
 ];
 
 const EDITIONS: [u8; 7] = [0, 1, 2, 3, 4, 5, 255];

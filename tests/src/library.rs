@@ -1,13 +1,18 @@
 //! The library under test, as plain functions.
 
-use crate::guarded::Guarded;
+use crate::guarded::{Guarded, Whole};
 
 use self::card::{CardRead, CardRewrite, CardWrite, StackFind};
+use self::entry::Entry;
 use self::history::Replay;
+use self::memory::{InPlace, Memory};
 use self::program::StackList;
 
 pub mod card;
+pub mod entry;
 pub mod history;
+mod lines;
+pub mod memory;
 pub mod program;
 
 /// Model, range, depth and channel, in this order.
@@ -85,26 +90,33 @@ impl Library {
 }
 
 /// The static library that this program is linked with.
-pub const LINKED: Library = Library {
-    dequantize,
-    quantize,
-    unpack_line,
-    pack_line,
-    decode_line,
-    decode_point,
-    encode_line,
-    encode_point,
-    descriptor_read,
-    descriptor_write,
-    rgb_to_ycbcr: convert,
-    ycbcr_to_rgb: convert,
-    card_read: card::card_read,
-    card_write: card::card_write,
-    card_rewrite: card::card_rewrite,
-    replay: history::replay,
-    stack_find: card::stack_find,
-    stack_list: program::stack_list,
-};
+pub const LINKED: Library = linked::<InPlace>();
+
+/// The same with lent memory of this kind.
+pub const fn linked<M: Memory>() -> Library {
+    Library {
+        dequantize: dequantize::<M>,
+        quantize: quantize::<M>,
+        unpack_line: lines::unpack_line::<M>,
+        pack_line: lines::pack_line::<M>,
+        decode_line: lines::decode_line::<M>,
+        decode_point: lines::decode_point::<M>,
+        encode_line: lines::encode_line::<M>,
+        encode_point: lines::encode_point::<M>,
+        descriptor_read: descriptor_read::<M>,
+        descriptor_write: descriptor_write::<M>,
+        rgb_to_ycbcr: convert::<M>,
+        ycbcr_to_rgb: convert::<M>,
+        card_read: card::card_read::<M>,
+        card_write: card::card_write::<M>,
+        card_rewrite: card::card_rewrite::<M>,
+        replay: history::replay::<M>,
+        stack_find: card::stack_find::<M>,
+        stack_list: program::stack_list,
+    }
+}
+
+type Converting = unsafe extern "C" fn(u8, u8, u8, u8, *const u16, usize, *mut u16, usize) -> i64;
 
 extern "C" {
     fn imurraqi_dequantize(
@@ -117,54 +129,6 @@ extern "C" {
     ) -> i64;
 
     fn imurraqi_quantize(model: u8, range: u8, depth: u8, channel: u8, value: f32) -> i64;
-
-    fn imurraqi_unpack_line(
-        layout: *const u8,
-        packed: *const u8,
-        length: usize,
-        out: *mut u16,
-        out_length: usize,
-    ) -> i64;
-
-    fn imurraqi_pack_line(
-        layout: *const u8,
-        codes: *const u16,
-        length: usize,
-        out: *mut u8,
-        out_length: usize,
-    ) -> i64;
-
-    fn imurraqi_decode_line(
-        layout: *const u8,
-        packed: *const u8,
-        length: usize,
-        out: *mut f32,
-        out_length: usize,
-    ) -> i64;
-
-    fn imurraqi_decode_point(
-        layout: *const u8,
-        bytes: *const u8,
-        length: usize,
-        point: *mut f32,
-    ) -> i64;
-
-    fn imurraqi_encode_line(
-        layout: *const u8,
-        values: *const f32,
-        length: usize,
-        out: *mut u8,
-        out_length: usize,
-    ) -> i64;
-
-    fn imurraqi_encode_point(
-        layout: *const u8,
-        first: f32,
-        second: f32,
-        third: f32,
-        out: *mut u8,
-        out_length: usize,
-    ) -> i64;
 
     fn imurraqi_descriptor_read(bytes: *const u8, length: usize, layout: *mut u8) -> i64;
 
@@ -193,132 +157,78 @@ extern "C" {
     ) -> i64;
 }
 
-fn dequantize([model, range, depth, channel]: Setting, code: u16, slot: &mut Slot) -> i64 {
-    // Taken from the whole slot, so that the guard words may be read afterwards
-    // even if the library has written to them.
-    let value = slot.as_mut_ptr().wrapping_add(FLOAT).cast();
+fn dequantize<M: Memory>(
+    [model, range, depth, channel]: Setting,
+    code: u16,
+    slot: &mut Slot,
+) -> i64 {
+    let mut memory = M::of(Entry::Dequantize);
+    let slot = Whole {
+        memory: slot,
+        guard: FLOAT,
+    };
+    let value = memory.output(slot).cast();
     // SAFETY: the pointer is to four aligned bytes that nothing else uses.
-    unsafe { imurraqi_dequantize(model, range, depth, channel, code, value) }
+    memory.answered(unsafe { imurraqi_dequantize(model, range, depth, channel, code, value) })
 }
 
-fn quantize([model, range, depth, channel]: Setting, value: f32) -> i64 {
+fn quantize<M: Memory>([model, range, depth, channel]: Setting, value: f32) -> i64 {
     // SAFETY: the function takes numbers alone.
-    unsafe { imurraqi_quantize(model, range, depth, channel, value) }
+    M::of(Entry::Quantize)
+        .answered(unsafe { imurraqi_quantize(model, range, depth, channel, value) })
 }
 
-fn unpack_line(layout: Layout, packed: &[u8], codes: &mut Guarded<u16>) -> i64 {
+fn descriptor_read<M: Memory>(bytes: &[u8], layout: &mut Guarded<u8>) -> i64 {
+    assert_eq!(layout.length(), size_of::<Layout>());
+    let mut memory = M::of(Entry::DescriptorRead);
     // SAFETY: the pointers are to as many elements as the lengths say, eight for
     // the layout, and nothing else uses the output.
-    unsafe {
-        imurraqi_unpack_line(
-            layout.as_ptr(),
-            packed.as_ptr(),
-            packed.len(),
-            codes.pointer(),
-            codes.length(),
-        )
-    }
-}
-
-fn pack_line(layout: Layout, codes: &[u16], packed: &mut Guarded<u8>) -> i64 {
-    // SAFETY: as for `unpack_line`.
-    unsafe {
-        imurraqi_pack_line(
-            layout.as_ptr(),
-            codes.as_ptr(),
-            codes.len(),
-            packed.pointer(),
-            packed.length(),
-        )
-    }
-}
-
-fn decode_line(layout: Layout, packed: &[u8], values: &mut Guarded<u32>) -> i64 {
-    // SAFETY: as for `unpack_line`; a float is as large as its bits.
-    unsafe {
-        imurraqi_decode_line(
-            layout.as_ptr(),
-            packed.as_ptr(),
-            packed.len(),
-            values.pointer().cast(),
-            values.length(),
-        )
-    }
-}
-
-fn decode_point(layout: Layout, bytes: &[u8], point: &mut Guarded<u32>) -> i64 {
-    assert_eq!(point.length(), 3);
-    // SAFETY: as for `decode_line`; the output has the length of a point.
-    unsafe {
-        imurraqi_decode_point(
-            layout.as_ptr(),
-            bytes.as_ptr(),
+    let answer = unsafe {
+        imurraqi_descriptor_read(
+            memory.input(bytes),
             bytes.len(),
-            point.pointer().cast(),
+            memory.output(layout.whole()),
         )
-    }
+    };
+    memory.answered(answer)
 }
 
-fn encode_line(layout: Layout, values: &[f32], packed: &mut Guarded<u8>) -> i64 {
-    // SAFETY: as for `unpack_line`.
-    unsafe {
-        imurraqi_encode_line(
-            layout.as_ptr(),
-            values.as_ptr(),
-            values.len(),
-            packed.pointer(),
-            packed.length(),
+fn descriptor_write<M: Memory>(layout: Layout, out: &mut Guarded<u8>) -> i64 {
+    let mut memory = M::of(Entry::DescriptorWrite);
+    // SAFETY: as for `descriptor_read`.
+    let answer = unsafe {
+        imurraqi_descriptor_write(
+            memory.input(&layout),
+            memory.output(out.whole()),
+            out.length(),
         )
-    }
+    };
+    memory.answered(answer)
 }
 
-fn encode_point(layout: Layout, values: [f32; 3], packed: &mut Guarded<u8>) -> i64 {
-    let [first, second, third] = values;
-    // SAFETY: as for `unpack_line`.
-    unsafe {
-        imurraqi_encode_point(
-            layout.as_ptr(),
-            first,
-            second,
-            third,
-            packed.pointer(),
-            packed.length(),
-        )
-    }
-}
-
-fn descriptor_read(bytes: &[u8], layout: &mut Guarded<u8>) -> i64 {
-    assert_eq!(layout.length(), size_of::<Layout>());
-    // SAFETY: as for `unpack_line`; the output has the length of a layout.
-    unsafe { imurraqi_descriptor_read(bytes.as_ptr(), bytes.len(), layout.pointer()) }
-}
-
-fn descriptor_write(layout: Layout, out: &mut Guarded<u8>) -> i64 {
-    // SAFETY: as for `unpack_line`.
-    unsafe { imurraqi_descriptor_write(layout.as_ptr(), out.pointer(), out.length()) }
-}
-
-fn convert(
+fn convert<M: Memory>(
     direction: Direction,
     [primaries, depth, range_in, range_out]: Conversion,
     codes: &mut Guarded<u16>,
     out: &mut Guarded<u16>,
 ) -> i64 {
-    let convert = match direction {
-        Direction::RgbToYcbcr => imurraqi_rgb_to_ycbcr,
-        Direction::YcbcrToRgb => imurraqi_ycbcr_to_rgb,
+    let (entry, convert): (_, Converting) = match direction {
+        Direction::RgbToYcbcr => (Entry::RgbToYcbcr, imurraqi_rgb_to_ycbcr),
+        Direction::YcbcrToRgb => (Entry::YcbcrToRgb, imurraqi_ycbcr_to_rgb),
     };
-    // SAFETY: as for `unpack_line`; nothing else uses the codes either.
-    unsafe {
+    let mut memory = M::of(entry);
+    // SAFETY: as for `descriptor_read`; nothing else uses the codes either.
+    let answer = unsafe {
         convert(
             primaries,
             depth,
             range_in,
             range_out,
-            codes.pointer(),
+            memory.kept(codes.whole()),
             codes.length(),
-            out.pointer(),
+            memory.output(out.whole()),
             out.length(),
         )
-    }
+    };
+    memory.answered(answer)
 }

@@ -18,6 +18,7 @@ mod layouts;
 mod library;
 mod lines;
 mod list;
+mod pages;
 mod part;
 mod plain;
 mod quantization;
@@ -43,6 +44,8 @@ fn main() -> ExitCode {
             Some(passed) => passed,
             None => return usage(),
         },
+        // Only the self-check asks for this.
+        [pages::STRAY_MODE, number] => pages::run_wrong(number).is_some(),
         _ => return usage(),
     };
     if passed {
@@ -57,21 +60,24 @@ fn usage() -> ExitCode {
     ExitCode::from(2)
 }
 
-/// Every part, then the self-check. Says whether all was well.
+/// Every part, those of the library again beside closed pages, then the self-check.
+/// Says whether all was well.
 fn ordinary() -> bool {
     let start = Instant::now();
     let mut total = Tally::default();
     for part in part::library_parts().chain(part::reference_parts()) {
         total.add(run(part));
     }
-    let checked = self_check::run();
+    let (all_seen, beside_pages) = pages::run();
+    total.add(beside_pages);
+    let checked = self_check::run() & pages::self_check();
     println!(
         "tests: {} comparisons, {} differences ({:.1} s)",
         total.comparisons,
         total.differences,
         start.elapsed().as_secs_f64()
     );
-    checked && total.differences == 0
+    all_seen && checked && total.differences == 0
 }
 
 fn run(part: &Part) -> Tally {

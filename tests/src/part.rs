@@ -22,6 +22,11 @@ pub const fn part(name: &'static str, run: fn(&Library, &mut Tally) -> Flow) -> 
 
 /// Every part that tries the library or the program, subject after subject.
 pub fn library_parts() -> impl Iterator<Item = &'static Part> {
+    entry_parts().chain(list::PARTS)
+}
+
+/// Every part that tries the library.
+pub fn entry_parts() -> impl Iterator<Item = &'static Part> {
     [
         quantization::PARTS,
         lines::PARTS,
@@ -30,7 +35,6 @@ pub fn library_parts() -> impl Iterator<Item = &'static Part> {
         card::PARTS,
         history::PARTS,
         stack::PARTS,
-        list::PARTS,
     ]
     .into_iter()
     .flatten()

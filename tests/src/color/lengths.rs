@@ -8,7 +8,7 @@ use super::{compare, conversions, inputs, DEPTH, DEPTHS, MOST_POINTS};
 
 pub fn short_lines(library: &Library, tally: &mut Tally) -> Flow {
     for conversion in DEPTHS.into_iter().flat_map(conversions) {
-        for points in [0, 1, 2, 3, 7] {
+        for points in [0, 1, 2, 3, 7, 8] {
             compare_around(library, tally, conversion, points)?;
         }
     }

@@ -4,6 +4,8 @@ use reference::card::Facts;
 
 use crate::guarded::Guarded;
 
+use super::entry::Entry;
+use super::memory::Memory;
 use super::Layout;
 
 /// What the functions on cards share: lent bytes lie among guards and must be left
@@ -74,36 +76,40 @@ extern "C" {
     fn imurraqi_stack_find(stack: *const u8, length: usize, edition: u8, item: u64) -> i64;
 }
 
-pub fn card_read(card: &mut Guarded<u8>, edition: u8, told: &mut Told) -> i64 {
+pub fn card_read<M: Memory>(card: &mut Guarded<u8>, edition: u8, told: &mut Told) -> i64 {
+    let mut memory = M::of(Entry::CardRead);
     // SAFETY: the pointers are to as many elements as the length says, eight for
     // the layout and four for the facts, and nothing else uses them.
-    unsafe {
+    let answer = unsafe {
         imurraqi_card_read(
-            card.pointer(),
+            memory.kept(card.whole()),
             card.length(),
             edition,
-            told.layout.pointer(),
-            told.facts.pointer(),
+            memory.output(told.layout.whole()),
+            memory.output(told.facts.whole()),
         )
-    }
+    };
+    memory.answered(answer)
 }
 
-pub fn card_write(edition: u8, facts: Facts, out: &mut Guarded<u8>) -> i64 {
+pub fn card_write<M: Memory>(edition: u8, facts: Facts, out: &mut Guarded<u8>) -> i64 {
     let lent = Guarded::holding(&facts.layout);
     let mut layout = lent.clone();
+    let mut memory = M::of(Entry::CardWrite);
     // SAFETY: as for `card_read`.
     let answer = unsafe {
         imurraqi_card_write(
             edition,
-            layout.pointer(),
+            memory.kept(layout.whole()),
             facts.width,
             facts.height,
             facts.item,
             facts.access,
-            out.pointer(),
+            memory.output(out.whole()),
             out.length(),
         )
     };
+    let answer = memory.answered(answer);
     if layout == lent {
         answer
     } else {
@@ -111,20 +117,24 @@ pub fn card_write(edition: u8, facts: Facts, out: &mut Guarded<u8>) -> i64 {
     }
 }
 
-pub fn card_rewrite(card: &mut Guarded<u8>, edition: u8, out: &mut Guarded<u8>) -> i64 {
+pub fn card_rewrite<M: Memory>(card: &mut Guarded<u8>, edition: u8, out: &mut Guarded<u8>) -> i64 {
+    let mut memory = M::of(Entry::CardRewrite);
     // SAFETY: as for `card_read`.
-    unsafe {
+    let answer = unsafe {
         imurraqi_card_rewrite(
-            card.pointer(),
+            memory.kept(card.whole()),
             card.length(),
             edition,
-            out.pointer(),
+            memory.output(out.whole()),
             out.length(),
         )
-    }
+    };
+    memory.answered(answer)
 }
 
-pub fn stack_find(stack: &mut Guarded<u8>, edition: u8, item: u64) -> i64 {
+pub fn stack_find<M: Memory>(stack: &mut Guarded<u8>, edition: u8, item: u64) -> i64 {
+    let mut memory = M::of(Entry::StackFind);
+    let cards = memory.kept(stack.whole());
     // SAFETY: as for `card_read`.
-    unsafe { imurraqi_stack_find(stack.pointer(), stack.length(), edition, item) }
+    memory.answered(unsafe { imurraqi_stack_find(cards, stack.length(), edition, item) })
 }

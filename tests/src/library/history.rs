@@ -4,6 +4,9 @@ use reference::card::Facts;
 
 use crate::guarded::Guarded;
 
+use super::entry::Entry;
+use super::memory::Memory;
+
 /// What a replay is given, and then leaves. All memory lies among guards.
 #[derive(Clone, PartialEq)]
 pub struct Replaying {
@@ -53,34 +56,36 @@ extern "C" {
     ) -> i64;
 }
 
-pub fn replay(asked: &mut Replaying) -> i64 {
+pub fn replay<M: Memory>(asked: &mut Replaying) -> i64 {
+    let mut memory = M::of(Entry::Replay);
     // SAFETY: the pointers are to as many elements as the lengths say, eight for
     // the layout, thirteen and two for the last, and nothing else uses them.
-    unsafe {
+    let answer = unsafe {
         imurraqi_replay(
             asked.first,
-            asked.layout.pointer(),
+            memory.kept(asked.layout.whole()),
             asked.facts.width,
             asked.facts.height,
             asked.facts.item,
             asked.facts.access,
-            asked.card.pointer(),
+            memory.output(asked.card.whole()),
             asked.card.length(),
-            asked.editions.pointer(),
+            memory.kept(asked.editions.whole()),
             asked.editions.length(),
-            asked.lengths.pointer().cast(),
+            memory.kept(asked.lengths.whole()).cast(),
             asked.lengths.length(),
-            asked.outputs.pointer(),
+            memory.output(asked.outputs.whole()),
             asked.outputs.length(),
-            asked.answers.pointer(),
+            memory.output(asked.answers.whole()),
             asked.answers.length(),
             asked.last,
-            asked.packed.pointer(),
+            memory.kept(asked.packed.whole()),
             asked.packed.length(),
-            asked.values.pointer().cast(),
+            memory.output(asked.values.whole()).cast(),
             asked.values.length(),
-            asked.read.pointer(),
-            asked.decoded.pointer(),
+            memory.output(asked.read.whole()),
+            memory.output(asked.decoded.whole()),
         )
-    }
+    };
+    memory.answered(answer)
 }

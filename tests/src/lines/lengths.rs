@@ -13,7 +13,7 @@ use super::{
 
 pub fn short_lines(library: &Library, tally: &mut Tally) -> Flow {
     for layout in layouts::one_of_each_size() {
-        for points in [0, 1, 2, 3, 7] {
+        for points in [0, 1, 2, 3, 7, 8] {
             compare_around(library, tally, layout, points)?;
         }
     }

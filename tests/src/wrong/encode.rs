@@ -16,6 +16,9 @@ use super::{Wrong, REFERENCE};
 
 pub const WRONG: &[Wrong] = &[
     // Which points.
+    encodes("nothing encoded", |layout, values, out| {
+        keeping_from(0, out, |out| expected_encode_line(layout, values, out))
+    }),
     encodes("only the first point encoded", |layout, values, out| {
         keeping_from(bytes_a_point(layout), out, |out| {
             expected_encode_line(layout, values, out)

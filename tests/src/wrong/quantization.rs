@@ -117,6 +117,9 @@ pub const WRONG: &[Wrong] = &[
         }
         expected_quantize(setting, bits)
     }),
+    quantizes("a constant code", |setting, value| {
+        expected_quantize(setting, value.to_bits()).min(0)
+    }),
     // Codes to floats.
     dequantizes("a constant float", |setting, code, slot| {
         let answer = expected_dequantize(setting, code, slot);

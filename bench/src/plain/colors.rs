@@ -3,7 +3,8 @@
 //! checked in a pass of their own without an early exit, and each code made is one
 //! division of whole numbers.
 
-use crate::layout::{Scale, CODE_TOO_HIGH, LENGTH, MOST_POINTS, OUTSIDE};
+use super::layout::{Scale, MOST_POINTS};
+use super::refusal::{CODE_TOO_HIGH, LENGTH, OUTSIDE};
 
 /// Primaries, depth, the range of the given codes, and that of the codes made.
 pub type Conversion = [u8; 4];

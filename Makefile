@@ -1,0 +1,49 @@
+# make                       proves and builds the library and the list program, where missing or older than crates/
+# make install PREFIX=DIR    puts them, the header and the pkg-config file under DIR (under DESTDIR/DIR if that is given)
+# make uninstall PREFIX=DIR  takes them away again
+# make examples              runs the examples and compares what they print
+# make check                 the gate
+PREFIX ?= /usr/local
+VERSION = 0.1.0
+
+library = target/staticlib/libimurraqi.a
+program = target/bin/stack_list
+sources := crates.txt $(shell find crates -name '*.rt' -o -name '*.antt')
+
+# In a shell: PREFIX with its whole path, and the directory that is written to.
+places = set -e; prefix=$$(realpath -ms -- '$(PREFIX)'); to='$(DESTDIR)'$$prefix
+
+all: $(library) $(program)
+
+# An unchanged file may be left as it is: its time then says that it was looked at.
+$(library): $(sources)
+	rt staticlib imurraqi
+	touch -c $@
+
+$(program): $(sources)
+	rt check stack_list
+	touch -c $@
+
+install: all
+	$(places); \
+	install -d "$$to/lib/pkgconfig" "$$to/include" "$$to/bin"; \
+	install -m 644 $(library) "$$to/lib"; \
+	install -m 644 include/imurraqi.h "$$to/include"; \
+	install -m 755 $(program) "$$to/bin"; \
+	{ printf 'prefix=%s\nversion=%s\n' "$$prefix" '$(VERSION)'; cat imurraqi.pc.in; } \
+	    >"$$to/lib/pkgconfig/imurraqi.pc"; \
+	chmod 644 "$$to/lib/pkgconfig/imurraqi.pc"
+
+uninstall:
+	$(places); \
+	rm -f "$$to/lib/libimurraqi.a" "$$to/lib/pkgconfig/imurraqi.pc" "$$to/include/imurraqi.h" "$$to/bin/stack_list"
+
+examples: all
+	examples/run
+
+check:
+	.ci/run
+
+# Never two rt at a time.
+.NOTPARALLEL:
+.PHONY: all install uninstall examples check

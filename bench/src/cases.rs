@@ -1,0 +1,34 @@
+//! Every entry of the C interface with the inputs that it is measured on.
+
+use crate::case::{Case, Label};
+
+mod cards;
+mod colors;
+mod descriptors;
+mod history;
+mod lines;
+mod values;
+
+/// Inputs of one measurement of a short call.
+const MANY: usize = 512;
+
+/// In the order of the header. An error if some outputs differ.
+pub fn all() -> Result<Vec<Case>, String> {
+    let subjects = [
+        descriptors::cases()?,
+        values::cases()?,
+        lines::cases()?,
+        colors::cases()?,
+        cards::cases()?,
+        history::cases()?,
+    ];
+    Ok(subjects.into_iter().flatten().collect())
+}
+
+fn label(entry: &'static str, setting: &str, input: &str) -> Label {
+    Label {
+        entry,
+        setting: setting.into(),
+        input: input.into(),
+    }
+}

@@ -1,0 +1,72 @@
+//! Histories of rewrites, some of which are refused.
+
+use super::cards::any_facts;
+use super::label;
+use crate::case::Case;
+use crate::library;
+use crate::plain;
+use crate::plain::cards::BYTES;
+use crate::plain::history::{History, Replayed};
+use crate::random::Random;
+
+const HISTORIES: u64 = 32;
+const REWRITES: usize = 16;
+const POINTS: usize = 16;
+
+pub fn cases() -> Result<Vec<Case>, String> {
+    let mut random = Random::new();
+    let histories: Vec<History> = (1..=HISTORIES)
+        .map(|item| any_history(&mut random, item))
+        .collect();
+    let mut refused = vec![histories[0].clone(); 4];
+    refused[0].first = 3;
+    refused[1].facts.item = 0;
+    refused[2].first = 1;
+    refused[2].facts.access = 2;
+    refused[3].lengths[0] += 1;
+    let replay = Case::calls(
+        label("replay", "16 rewrites, 16 points", "any histories"),
+        histories,
+        &refused,
+        Replayed {
+            card: vec![0; BYTES],
+            outputs: vec![0; lengths().iter().sum()],
+            answers: vec![0; REWRITES],
+            values: vec![0.0; 3 * POINTS],
+            read: [0; 13],
+            decoded: [0; 2],
+        },
+        [library::history::replay, plain::history::replay],
+    )?;
+    Ok(vec![replay])
+}
+
+/// First written and last read at edition 2; one in nine rewrites is at 1, and one
+/// in nine at an edition that is not known.
+fn any_history(random: &mut Random, item: u64) -> History {
+    let facts = any_facts(random, item);
+    let [_, _, _, _, bytes, ..] = facts.layout;
+    let edition = |_| match random.below(9) {
+        0 => 1,
+        1 => 3,
+        _ => 2,
+    };
+    let editions = (0..REWRITES).map(edition).collect();
+    History {
+        first: 2,
+        facts,
+        editions,
+        lengths: lengths(),
+        last: 2,
+        packed: (0..POINTS * usize::from(bytes))
+            .map(|_| random.next() as u8)
+            .collect(),
+    }
+}
+
+/// All outputs are cards, but for one that is a byte short.
+fn lengths() -> Vec<usize> {
+    let mut lengths = vec![BYTES; REWRITES];
+    lengths[REWRITES / 2] -= 1;
+    lengths
+}

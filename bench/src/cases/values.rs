@@ -1,0 +1,123 @@
+//! Single values and points of any settings.
+
+use super::{label, MANY};
+use crate::case::Case;
+use crate::library;
+use crate::plain;
+use crate::plain::layout::Numbers;
+use crate::plain::values::Setting;
+use crate::random::Random;
+
+/// The longest point, in bytes.
+const LONGEST: usize = 8;
+
+pub fn cases() -> Result<Vec<Case>, String> {
+    Ok(vec![
+        dequantize()?,
+        quantize()?,
+        decode_point()?,
+        encode_point()?,
+    ])
+}
+
+fn dequantize() -> Result<Case, String> {
+    let mut random = Random::new();
+    let coded = |_| {
+        let setting = setting(&mut random);
+        (setting, random.code(setting[2]))
+    };
+    Case::calls(
+        label("dequantize", "one value", "any codes"),
+        (0..MANY).map(coded).collect(),
+        &[([2, 1, 9, 0], 0), ([2, 1, 8, 0], 256)],
+        0.0,
+        [
+            |(setting, code), value| library::values::dequantize(*setting, *code, value),
+            |(setting, code), value| plain::values::dequantize(*setting, *code, value),
+        ],
+    )
+}
+
+fn quantize() -> Result<Case, String> {
+    let mut random = Random::new();
+    let valued = |_| (setting(&mut random), random.value());
+    Case::calls(
+        label("quantize", "one value", "any floats"),
+        (0..MANY).map(valued).collect(),
+        &[([2, 1, 9, 0], 0.0), ([2, 1, 8, 0], f32::NAN)],
+        (),
+        [
+            |(setting, value), ()| library::values::quantize(*setting, *value),
+            |(setting, value), ()| plain::values::quantize(*setting, *value),
+        ],
+    )
+}
+
+fn decode_point() -> Result<Case, String> {
+    let mut random = Random::new();
+    let point = |_| {
+        let layout = random.layout();
+        let bytes = [0; LONGEST].map(|_: u8| random.next() as u8);
+        (layout, bytes, length(layout))
+    };
+    let points: Vec<(Numbers, [u8; LONGEST], usize)> = (0..MANY).map(point).collect();
+    let (layout, bytes, length) = points[0];
+    let refused = [([0; 8], bytes, length), (layout, bytes, length - 1)];
+    Case::calls(
+        label("decode_point", "one point", "any layouts"),
+        points,
+        &refused,
+        [0.0; 3],
+        [
+            |(layout, bytes, length), point| {
+                library::lines::decode_point(*layout, &bytes[..*length], point)
+            },
+            |(layout, bytes, length), point| {
+                plain::lines::decode_point(*layout, &bytes[..*length], point)
+            },
+        ],
+    )
+}
+
+fn encode_point() -> Result<Case, String> {
+    let mut random = Random::new();
+    let point = |_| {
+        let layout = random.layout();
+        let values = [0; 3].map(|_| random.value());
+        (layout, values, length(layout))
+    };
+    let points: Vec<(Numbers, [f32; 3], usize)> = (0..MANY).map(point).collect();
+    let (layout, values, length) = points[0];
+    let refused = [
+        ([0; 8], values, length),
+        (layout, values, length - 1),
+        (layout, [0.0, 0.0, f32::NAN], length),
+    ];
+    Case::calls(
+        label("encode_point", "one point", "any layouts"),
+        points,
+        &refused,
+        [0; LONGEST],
+        [
+            |(layout, values, length), out| {
+                library::lines::encode_point(*layout, *values, &mut out[..*length])
+            },
+            |(layout, values, length), out| {
+                plain::lines::encode_point(*layout, *values, &mut out[..*length])
+            },
+        ],
+    )
+}
+
+fn setting(random: &mut Random) -> Setting {
+    [
+        1 + random.below(2),
+        1 + random.below(2),
+        random.depth(),
+        random.below(3),
+    ]
+}
+
+fn length([_, _, _, _, bytes, ..]: Numbers) -> usize {
+    bytes.into()
+}

@@ -1,0 +1,80 @@
+//! A layout as the plain program uses it, checked once a line.
+
+/// Model, primaries, range, depth, bytes a point, and the bit offset of channel
+/// 0, 1, 2: the eight numbers of the C interface.
+pub type Numbers = [u8; 8];
+
+pub const MOST_POINTS: usize = 4096;
+
+#[derive(Clone, Copy)]
+pub struct Layout {
+    pub bytes: usize,
+    pub depth: u32,
+    pub offsets: [u32; 3],
+    pub scales: [Scale; 3],
+}
+
+/// A code is the base plus the value times the span, rounded and clamped.
+#[derive(Clone, Copy)]
+pub struct Scale {
+    pub span: i64,
+    pub base: i64,
+}
+
+/// Whether the numbers are a layout's.
+pub fn valid(numbers: Numbers) -> bool {
+    let [model, primaries, range, depth, bytes, offsets @ ..] = numbers;
+    let known = matches!(model, 1 | 2)
+        && matches!(primaries, 1..=4)
+        && matches!(range, 1 | 2)
+        && matches!(depth, 8 | 10 | 12)
+        && matches!(bytes, 3..=8);
+    let within = |offset: u8| u32::from(offset) + u32::from(depth) <= 8 * u32::from(bytes);
+    let apart = |one: u8, other: u8| one.abs_diff(other) >= depth;
+    let [first, second, third] = offsets;
+    known
+        && offsets.into_iter().all(within)
+        && apart(first, second)
+        && apart(first, third)
+        && apart(second, third)
+}
+
+impl Layout {
+    pub fn new(numbers: Numbers) -> Option<Layout> {
+        let [model, _, range, depth, bytes, first, second, third] = numbers;
+        valid(numbers).then(|| {
+            let brightness = Scale::new(range, depth, false);
+            let difference = Scale::new(range, depth, model == 2);
+            Layout {
+                bytes: bytes.into(),
+                depth: depth.into(),
+                offsets: [first.into(), second.into(), third.into()],
+                scales: [brightness, difference, difference],
+            }
+        })
+    }
+
+    pub fn greatest_code(self) -> u64 {
+        (1 << self.depth) - 1
+    }
+
+    /// The count of points, if the two lengths of a line fit together.
+    pub fn count(self, packed_bytes: usize, elements: usize) -> Option<usize> {
+        let count = packed_bytes / self.bytes;
+        let fit = packed_bytes == count * self.bytes && elements == 3 * count;
+        (fit && count <= MOST_POINTS).then_some(count)
+    }
+}
+
+impl Scale {
+    pub fn new(range: u8, depth: u8, difference: bool) -> Scale {
+        let (span, base) = if range == 1 {
+            let span = 219 + 5 * i64::from(difference);
+            let base = 16 + 112 * i64::from(difference);
+            (span << (depth - 8), base << (depth - 8))
+        } else {
+            ((1 << depth) - 1, i64::from(difference) << (depth - 1))
+        };
+        Scale { span, base }
+    }
+}

@@ -1,0 +1,50 @@
+//! One program's part in a case, and its times.
+
+use std::time::Instant;
+
+/// Runs in one measurement: enough for the clock, few enough to stay undisturbed.
+const RUNS: usize = 8;
+
+pub struct Side {
+    run: Box<dyn FnMut()>,
+    /// The points or calls of one run.
+    count: usize,
+    /// Nanoseconds a point or a call, one for each round.
+    times: Vec<f64>,
+}
+
+impl Side {
+    pub fn new(count: usize, run: impl FnMut() + 'static) -> Side {
+        Side {
+            run: Box::new(run),
+            count,
+            times: Vec::new(),
+        }
+    }
+
+    pub fn measure(&mut self) {
+        // Once unmeasured, so that the memory is near and the loop is known.
+        (self.run)();
+        let start = Instant::now();
+        for _ in 0..RUNS {
+            (self.run)();
+        }
+        let nanoseconds = start.elapsed().as_nanos() as f64;
+        self.times.push(nanoseconds / (RUNS * self.count) as f64);
+    }
+
+    pub fn median(&self) -> f64 {
+        median(self.times.clone())
+    }
+
+    /// The ratio to another side in each round.
+    pub fn over(&self, other: &Side) -> Vec<f64> {
+        let times = self.times.iter().zip(&other.times);
+        times.map(|(this, other)| this / other).collect()
+    }
+}
+
+pub fn median(mut numbers: Vec<f64>) -> f64 {
+    numbers.sort_by(f64::total_cmp);
+    numbers[numbers.len() / 2]
+}

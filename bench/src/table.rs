@@ -1,0 +1,176 @@
+//! The table of all entries.
+
+use crate::case::{Case, LENGTHS};
+use crate::stack_use;
+
+/// A longer line may cost so many times as much a point, for the clock's sake.
+pub const MOST_GROWTH: f64 = 1.1;
+
+const HEAD: [&str; 11] = [
+    "entry", "setting", "input", "a", "library", "plain", "ratio", "aim", "lengths", "growth",
+    "stack",
+];
+
+/// The first columns are words, the others numbers.
+const WORDS: usize = 4;
+
+/// Cases of one entry and setting.
+pub struct Row<'a> {
+    cases: Vec<&'a Case>,
+}
+
+pub fn rows(cases: &[Case]) -> Vec<Row<'_>> {
+    let mut rows: Vec<Row> = Vec::new();
+    for case in cases {
+        match rows.iter_mut().find(|row| row.holds(case)) {
+            Some(row) => row.cases.push(case),
+            None => rows.push(Row { cases: vec![case] }),
+        }
+    }
+    // The rows of an entry stand together, in the order of their first.
+    let entries: Vec<&str> = rows.iter().map(Row::entry).collect();
+    let mut places: Vec<usize> = (0..rows.len()).collect();
+    places.sort_by_key(|&row| entries.iter().position(|entry| *entry == entries[row]));
+    let mut rows: Vec<Option<Row>> = rows.into_iter().map(Some).collect();
+    places.iter().filter_map(|&row| rows[row].take()).collect()
+}
+
+impl Row<'_> {
+    pub fn entry(&self) -> &'static str {
+        self.cases[0].label.entry
+    }
+
+    pub fn name(&self) -> String {
+        format!("{}, {}", self.entry(), self.cases[0].label.setting)
+    }
+
+    pub fn over_aim(&self) -> bool {
+        aim(self.entry()).is_some_and(|aim| self.worst().ratio() > aim)
+    }
+
+    pub fn rises(&self) -> bool {
+        self.growth().is_some_and(|growth| growth > MOST_GROWTH)
+    }
+
+    pub fn too_deep(&self) -> bool {
+        self.stack() > stack_use::LIMIT
+    }
+
+    pub fn stack(&self) -> usize {
+        let bytes = self.cases.iter().map(|case| case.stack);
+        bytes.max().unwrap_or(0)
+    }
+
+    fn growth(&self) -> Option<f64> {
+        let growths = self.cases.iter().filter_map(|case| case.growth());
+        growths.max_by(f64::total_cmp)
+    }
+
+    /// The case with the greatest ratio.
+    fn worst(&self) -> &Case {
+        let mut worst = self.cases[0];
+        for case in &self.cases {
+            if case.ratio() > worst.ratio() {
+                worst = case;
+            }
+        }
+        worst
+    }
+
+    fn holds(&self, case: &Case) -> bool {
+        let label = &self.cases[0].label;
+        label.entry == case.label.entry && label.setting == case.label.setting
+    }
+
+    fn cells(&self) -> Vec<String> {
+        let case = self.worst();
+        let mut cells = vec![
+            case.label.entry.to_string(),
+            case.label.setting.clone(),
+            case.label.input.clone(),
+            if case.is_line() { "point" } else { "call" }.to_string(),
+            nanoseconds(case.library()),
+            nanoseconds(case.plain()),
+            format!("{:.2}", case.ratio()),
+            aim(case.label.entry).map_or(String::new(), |aim| aim.to_string()),
+        ];
+        let mut lengths: Vec<String> = case.lengths().into_iter().map(nanoseconds).collect();
+        lengths.resize(LENGTHS.len(), String::new());
+        cells.extend(lengths);
+        let growth = self.growth();
+        cells.push(growth.map_or(String::new(), |growth| format!("{growth:.2}")));
+        cells.push(self.stack().to_string());
+        cells
+    }
+}
+
+/// The ratio that is aimed at, where there is one.
+fn aim(entry: &str) -> Option<f64> {
+    match entry {
+        "decode_line" | "unpack_line" | "pack_line" => Some(1.1),
+        "encode_line" | "rgb_to_ycbcr" | "ycbcr_to_rgb" => Some(1.2),
+        _ => None,
+    }
+}
+
+/// Three digits at least.
+fn nanoseconds(number: f64) -> String {
+    if number < 10.0 {
+        format!("{number:.2}")
+    } else if number < 100.0 {
+        format!("{number:.1}")
+    } else {
+        format!("{number:.0}")
+    }
+}
+
+/// The rows as Markdown, in columns of one width.
+pub fn text(rows: &[Row]) -> String {
+    let mut lines: Vec<Vec<String>> = vec![head()];
+    lines.extend(rows.iter().map(Row::cells));
+    let widths: Vec<usize> = (0..lines[0].len())
+        .map(|column| {
+            lines
+                .iter()
+                .map(|line| line[column].len())
+                .max()
+                .unwrap_or(0)
+        })
+        .collect();
+    let mut text = String::new();
+    for (number, line) in lines.iter().enumerate() {
+        for (column, (cell, &width)) in line.iter().zip(&widths).enumerate() {
+            text.push_str(&if column < WORDS {
+                format!("| {cell:width$} ")
+            } else {
+                format!("| {cell:>width$} ")
+            });
+        }
+        text.push_str("|\n");
+        if number == 0 {
+            text.push_str(&rule(&widths));
+        }
+    }
+    text
+}
+
+fn rule(widths: &[usize]) -> String {
+    let mut rule = String::new();
+    for (column, width) in widths.iter().enumerate() {
+        let end = if column < WORDS { "-" } else { ":" };
+        rule.push_str(&format!("|{}{end}", "-".repeat(width + 1)));
+    }
+    rule + "|\n"
+}
+
+fn head() -> Vec<String> {
+    let mut head = Vec::new();
+    for name in HEAD {
+        if name == "lengths" {
+            head.extend(LENGTHS.map(|length| format!("at {length}")));
+        } else {
+            head.push(name.to_string());
+        }
+    }
+    head
+}

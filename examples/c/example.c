@@ -1,0 +1,83 @@
+/* Finds an item in a stack of cards, shows its facts, writes and reads the
+ * descriptor of its layout, and turns a line of its points into colors.
+ * Usage: example STACK */
+#include <imurraqi.h>
+
+#include <inttypes.h>
+#include <stdio.h>
+#include <stdlib.h>
+
+enum { CARD = 32, STACK = 1024 * CARD, DESCRIPTOR = 76 };
+enum { PRIMARIES = 1, RANGE = 2, DEPTH = 3, BYTES = 4 }; /* of a layout */
+enum { FULL = 2 };                                       /* a range */
+enum { POINTS = 4, CODES = 3 * POINTS };
+
+/* White, red, green and blue, as item 203002 has them: Y', Cb and Cr of 10 bits
+ * each, in four bytes. */
+static const uint8_t packed[4 * POINTS] = {
+    0xac, 0x03, 0x08, 0x20, 0x46, 0xa5, 0x05, 0x3c,
+    0x42, 0x5e, 0x93, 0x08, 0xa4, 0x00, 0x7f, 0x1b,
+};
+
+/* The answer, if it is one. Below 0 it is minus the number of a refusal, and
+ * nothing was written, so that there is nothing to go on with. */
+static int64_t good(int64_t answer)
+{
+    if (answer < 0) {
+        fprintf(stderr, "refused %d\n", (int)-answer);
+        exit(1);
+    }
+    return answer;
+}
+
+/* What edition 2 shows of an item. Its layout goes to layout. */
+static void show_item(const uint8_t *stack, size_t len, uint64_t item,
+                      uint8_t layout[8])
+{
+    static const char *const access[] = {"closed", "community", "open"};
+    uint64_t facts[4];
+    int64_t index = good(imurraqi_stack_find(stack, len, 2, item));
+    good(imurraqi_card_read(stack + CARD * index, CARD, 2, layout, facts));
+    printf("item %" PRIu64 ": card %d of %zu, %" PRIu64 " by %" PRIu64 ", %s\n",
+           facts[2], (int)index + 1, len / CARD, facts[0], facts[1],
+           access[facts[3]]);
+}
+
+/* The line's codes, values and colors, by a descriptor. */
+static void show_line(const uint8_t *descriptor, size_t len)
+{
+    uint8_t layout[8];
+    uint16_t codes[CODES], colors[CODES];
+    float values[CODES];
+    good(imurraqi_descriptor_read(descriptor, len, layout));
+    good(imurraqi_unpack_line(layout, packed, sizeof packed, codes, CODES));
+    good(imurraqi_ycbcr_to_rgb(layout[PRIMARIES], layout[DEPTH], layout[RANGE],
+                               FULL, codes, CODES, colors, CODES));
+    good(imurraqi_decode_line(layout, packed, sizeof packed, values, CODES));
+    printf("points of %d bits a channel in %d bytes\n", layout[DEPTH],
+           layout[BYTES]);
+    for (int i = 0; i < CODES; i += 3)
+        printf("Y'CbCr %d %d %d is %.4f %.4f %.4f, R'G'B' %d %d %d\n",
+               codes[i], codes[i + 1], codes[i + 2], values[i], values[i + 1],
+               values[i + 2], colors[i], colors[i + 1], colors[i + 2]);
+}
+
+int main(int argc, char **argv)
+{
+    static uint8_t stack[STACK + 1]; /* one more, so that a longer file is refused */
+    uint8_t layout[8], descriptor[DESCRIPTOR];
+    FILE *file = argc == 2 ? fopen(argv[1], "rb") : NULL;
+    if (file == NULL) {
+        fprintf(stderr, "usage: example STACK\n");
+        return 2;
+    }
+    size_t len = fread(stack, 1, sizeof stack, file);
+    fclose(file);
+
+    show_item(stack, len, 203002, layout);
+    good(imurraqi_descriptor_write(layout, descriptor, sizeof descriptor));
+    show_line(descriptor, sizeof descriptor);
+    /* A refusal is an answer too. 15: no card of the stack has the item. */
+    printf("item 7: %d\n", (int)imurraqi_stack_find(stack, len, 2, 7));
+    return 0;
+}
