@@ -9,16 +9,16 @@ use lib.Dec.{eqb}
 use lib.ListN.{length, length-take, length-drop}
 use Rattle.card_reader.specs.declared.Reading.{Reading}
 use Rattle.card_reader.specs.declared.Reading.the-variants.{Shown, Refused as NotShown}
-use Rattle.card_reader.specs.Reading.{readCard}
+use Rattle.card_reader.specs.Reading.{readCard, showsItem}
 use Rattle.layout.specs.Refusal.{wrongLength, unknownEdition, noItem}
 use Rattle.stack.specs.declared.Found.the-variants.{Refused}
 use Rattle.stack.specs.Stack.{cardsIn, cardAt}
-use Rattle.stack.specs.Finding.{shownItem, hasItem, located}
+use Rattle.stack.specs.Finding.{hasItem, located}
 use Rattle.stack.proofs.First.{first-is, none-is, is-first, is-none}
 use Rattle.stack.proofs.Answers.{located-first, searched, searched-at, located-in}
 use Rattle.card_laws.specs.Finding.{Has, LocatesTheFirst, LocatesIt, NoneWhere15, FifteenWhereNone, FindsWholeCards}
 
-shown : (s : List ℕ) (e item k : ℕ) → k < cardsIn (length s) → (r : Reading) → readCard (cardAt s k) e ≡ r → shownItem item r ≡ true → Has s e item k
+shown : (s : List ℕ) (e item k : ℕ) → k < cardsIn (length s) → (r : Reading) → readCard (cardAt s k) e ≡ r → showsItem item r ≡ true → Has s e item k
 shown s e item k h (Shown f) q t = record { inside = h; facts = f; shown = q; number = eqb-true _ _ t }
 shown s e item k h (NotShown n) q t = absurd (clash t)
   where
@@ -33,7 +33,7 @@ has s e item k h t = shown s e item k h (readCard (cardAt s k) e) refl t
 -- and one that has it passes
 passes : (s : List ℕ) (e item k : ℕ) → Has s e item k → hasItem s e item k ≡ true
 unfolding hasItem
-passes s e item k h = ap (shownItem item) (h .shown) ∙ eq-eqb _ _ (h .number)
+passes s e item k h = ap (showsItem item) (h .shown) ∙ eq-eqb _ _ (h .number)
 
 fails : (s : List ℕ) (e item k : ℕ) → (Has s e item k → ⊥) → k < cardsIn (length s) → hasItem s e item k ≡ false
 fails s e item k none h = go (hasItem s e item k) refl

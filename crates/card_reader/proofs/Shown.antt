@@ -1,18 +1,19 @@
 -- What an accepted reading says of the bytes: no row applied, and the facts are those that the bytes hold. Assumes nothing.
-use mathlib.Core.Path.{_≡_, refl}
+use mathlib.Core.Path.{_≡_, refl, ap, _∙_}
 use mathlib.Core.Bool.{Bool, true, false, not, cond}
 use mathlib.Core.List.{List}
 use Prim.Native.Nat.{ℕ}
 use native.Mathlib.Omega.{arith}
-use borrow.Author.Tests.{eqb-true, not-false}
+use borrow.Author.Tests.{eqb-true, ne-eqb, not-false}
 use lib.Dec.{eqb, ltb}
 use lib.ListN.{length, getD}
+use Rattle.lists.specs.Bytes.{numberAt}
 use Rattle.card_table.specs.declared.facts.Facts.{Facts}
 use Rattle.card_table.specs.Edition.{editionKnown}
 use Rattle.card_table.specs.Table.{cardSize}
 use Rattle.card_reader.specs.declared.Reading.{Reading}
 use Rattle.card_reader.specs.declared.Reading.the-variants.{Shown, Refused}
-use Rattle.card_reader.specs.Reading.{writerOf, factsIn, frontRight, accessUnknown, endWrong, readCard}
+use Rattle.card_reader.specs.Reading.{writerOf, factsIn, frontRight, accessUnknown, endWrong, readCard, showsItem}
 
 -- a row that did not apply
 pub passed : (t : Bool) (n : ℕ) (rest : Reading) (f : Facts) → cond t (Refused n) rest ≡ Shown f → (t ≡ false) × (rest ≡ Shown f)
@@ -56,3 +57,15 @@ accepted b e f h =
       end = h₈ .0;
       is = same-facts (factsIn b e) f (h₈ .1);
     }
+
+-- an item that is shown is the number in bytes 16 to 23 of 32
+module _ (b : List ℕ) (e item : ℕ) (h : length b ≡ cardSize → numberAt b 16 8 ≡ item → ⊥) where
+  pub other-item : showsItem item (readCard b e) ≡ false
+  unfolding factsIn
+  other-item = go (readCard b e) refl
+    where
+      go : (r : Reading) → readCard b e ≡ r → showsItem item r ≡ false
+      go (Refused k) p = refl
+      go (Shown f) p =
+          let a = accepted b e f p in
+          ne-eqb (f .item) item (λ q. h (a .size) (ap (λ (g : Facts). g .item) (a .is) ∙ q))

@@ -1,6 +1,6 @@
 -- Document 01, "Card" and "Numbers on the refusal slip": what reading a card at an edition answers. Assumes nothing.
 use Prim.Native.Nat.{ℕ}
-use mathlib.Core.Bool.{Bool, not, cond, _&&_, _||_}
+use mathlib.Core.Bool.{Bool, false, not, cond, _&&_, _||_}
 use mathlib.Core.List.{List}
 use lib.Dec.{eqb, leb, ltb}
 use lib.ListN.{length, getD}
@@ -87,3 +87,8 @@ readCard b e =
     (cond (accessUnknown (writerOf b) (getD b 24 0) e) (Refused unknownAccess)
     (cond (endWrong b e) (Refused outside)
     (Shown (factsIn b e))))))))
+
+-- a reading shows the item; one that is refused shows none
+abbrev pub showsItem : ℕ → Reading → Bool
+showsItem item (Shown f) = eqb (f .item) item
+showsItem item (Refused k) = false

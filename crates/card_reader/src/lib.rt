@@ -1,6 +1,6 @@
 // A card read: 32 bytes that hold the facts of an item (document 01, "Card").
 ghost use mathlib.Core.Path.{_≡_};
-ghost use Rattle.card_reader.specs.Reading.{readCard};
+ghost use Rattle.card_reader.specs.Reading.{readCard, showsItem};
 use card_table::Card;
 use card_table::Facts;
 use card_table::edition;
@@ -44,4 +44,21 @@ pub fn read(bytes: &[u8], edition: u8) -> Reading
         return Reading::Refused(refusal::OUTSIDE);
     }
     Reading::Shown(facts)
+}
+
+// Whether an edition reads a card and it has the item's number. The number is looked at first: most cards of a stack have
+// another, and need not be read.
+pub fn shows_item(bytes: &[u8], edition: u8, item: u64) -> bool
+    ensures { λ r. ⌜ r ≡ showsItem item (readCard (now (bytes .entry)) edition) ⌝ }
+{
+    if bytes.len() != Card::SIZE {
+        return false;
+    }
+    if number::number8(bytes, 16) != item {
+        return false;
+    }
+    match read(bytes, edition) {
+        Reading::Shown(facts) => facts.item == item,
+        Reading::Refused(_) => false,
+    }
 }

@@ -14,8 +14,8 @@ use Rattle.card_table.specs.Table.{cardSize}
 use Rattle.stack.specs.declared.Found.{Found}
 use Rattle.stack.specs.declared.Found.the-variants.{At, Refused}
 use Rattle.stack.specs.Stack.{stackLimit, cardsIn, wholeStack, cardAt}
-use Rattle.card_reader.specs.Reading.{readCard}
-use Rattle.stack.specs.Finding.{shownItem, hasItem, first, located}
+use Rattle.card_reader.specs.Reading.{readCard, showsItem}
+use Rattle.stack.specs.Finding.{hasItem, first, located}
 use Rattle.stack.proofs.First.{not-at, first-is}
 
 -- the part that a turn looks at is card i
@@ -24,9 +24,9 @@ card-part s i = let e : cardSize * i + cardSize - cardSize * i ≡ cardSize = om
 
 module _ (s : List ℕ) (e item : ℕ) where
   -- what is asked of that part is asked of card i
-  pub seen : (i : ℕ) {b : Bool} → b ≡ shownItem item (readCard (take (cardSize * i + cardSize - cardSize * i) (drop (cardSize * i) s)) e) → hasItem s e item i ≡ b
+  pub seen : (i : ℕ) {b : Bool} → b ≡ showsItem item (readCard (take (cardSize * i + cardSize - cardSize * i) (drop (cardSize * i) s)) e) → hasItem s e item i ≡ b
   unfolding hasItem
-  seen i h = sym (h ∙ ap (λ (c : List ℕ). shownItem item (readCard c e)) (card-part s i))
+  seen i h = sym (h ∙ ap (λ (c : List ℕ). showsItem item (readCard c e)) (card-part s i))
 
   pub located-1 : not (wholeStack (length s)) ≡ true → located s e item ≡ Refused wrongLength
   unfolding located

@@ -1,27 +1,19 @@
 -- Document 01, "Numbers on the refusal slip": finding an item in a stack at an edition. Assumes nothing.
 use Prim.Native.Nat.{ℕ, zero, suc, _+_, _*_}
-use mathlib.Core.Bool.{Bool, false, not, cond}
+use mathlib.Core.Bool.{Bool, not, cond}
 use mathlib.Core.List.{List, []}
-use lib.Dec.{eqb}
 use lib.ListN.{length}
 use Rattle.layout.specs.Refusal.{wrongLength, unknownEdition, noItem}
 use Rattle.card_table.specs.Edition.{editionKnown}
 use Rattle.card_table.specs.Table.{cardSize}
-use Rattle.card_reader.specs.declared.Reading.{Reading}
-use Rattle.card_reader.specs.declared.Reading.the-variants.{Shown, Refused as NotShown}
-use Rattle.card_reader.specs.Reading.{readCard}
+use Rattle.card_reader.specs.Reading.{readCard, showsItem}
 use Rattle.stack.specs.declared.Found.{Found}
 use Rattle.stack.specs.declared.Found.the-variants.{At, Refused}
 use Rattle.stack.specs.Stack.{cardsIn, wholeStack, cardAt}
 
--- a reading shows the item; a card that is refused is passed over
-abbrev pub shownItem : ℕ → Reading → Bool
-shownItem item (Shown f) = eqb (f .item) item
-shownItem item (NotShown k) = false
-
 -- the edition reads card k, and it has the number
 unfoldable pub hasItem : List ℕ → ℕ → ℕ → ℕ → Bool
-hasItem s e item k = shownItem item (readCard (cardAt s k) e)
+hasItem s e item k = showsItem item (readCard (cardAt s k) e)
 
 -- the first index that passes the test, of n from i on; 15 where none does
 unfoldable pub first : (ℕ → Bool) → ℕ → ℕ → Found

@@ -4,9 +4,7 @@ ghost use denote.Ref.{ptr};
 ghost use lib.ListN.{length};
 ghost use Rattle.card_table.specs.Table.{cardSize};
 ghost use Rattle.stack.specs.Stack.{wholeStack};
-ghost use Rattle.stack.specs.Finding.{shownItem, located, part, placed};
-ghost use Rattle.card_reader.specs.Reading.{readCard};
-use card_reader::Reading;
+ghost use Rattle.stack.specs.Finding.{located, part, placed};
 use card_table::Card;
 use card_table::edition;
 use layout::refusal;
@@ -22,16 +20,6 @@ pub fn whole(bytes: usize) -> bool
     ensures { λ r. ⌜ r ≡ wholeStack bytes ⌝ }
 {
     (bytes % Card::SIZE == 0) & (bytes / Card::SIZE <= Card::STACK_LIMIT)
-}
-
-// Whether an edition reads a card and it has the number.
-fn shows(bytes: &[u8], edition: u8, item: u64) -> bool
-    ensures { λ r. ⌜ r ≡ shownItem item (readCard (now (bytes .entry)) edition) ⌝ }
-{
-    match card_reader::read(bytes, edition) {
-        Reading::Shown(facts) => facts.item == item,
-        Reading::Refused(_) => false,
-    }
 }
 
 // The index of the first card that the edition reads and that has the number. Refused: 1, 7, 15.
@@ -51,7 +39,7 @@ pub fn locate(stack: &[u8], edition: u8, item: u64) -> Found
             break Found::Refused(refusal::NO_ITEM);
         }
         let start = Card::SIZE * i;
-        if shows(&stack[start..start + Card::SIZE], edition, item) {
+        if card_reader::shows_item(&stack[start..start + Card::SIZE], edition, item) {
             break Found::At(i);
         }
         i += 1;

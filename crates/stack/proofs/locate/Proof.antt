@@ -48,20 +48,20 @@ loop-holds c = (omega arith, ap (first _ 0) (sym (sub-zero _)))
 mul-start : tie.Need-mul-start Inv-loop μ-loop
 mul-start c = omega arith
 
-add-shows : tie.Need-add-shows Inv-loop μ-loop
-add-shows c = omega arith
+add-shows-item : tie.Need-add-shows-item Inv-loop μ-loop
+add-shows-item c = omega arith
 
-sub-shows : tie.Need-sub-shows Inv-loop μ-loop
-sub-shows c = omega arith
+sub-shows-item : tie.Need-sub-shows-item Inv-loop μ-loop
+sub-shows-item c = omega arith
 
-part-shows-start : tie.Need-part-shows-start Inv-loop μ-loop
-part-shows-start c = omega arith
+part-shows-item-start : tie.Need-part-shows-item-start Inv-loop μ-loop
+part-shows-item-start c = omega arith
 
-part-shows-end : tie.Need-part-shows-end Inv-loop μ-loop
-part-shows-end c = omega arith
+part-shows-item-end : tie.Need-part-shows-item-end Inv-loop μ-loop
+part-shows-item-end c = omega arith
 
-shows-requires : tie.Need-shows-requires Inv-loop μ-loop
-shows-requires c κs = search needs
+shows-item-requires : tie.Need-shows-item-requires Inv-loop μ-loop
+shows-item-requires c κs = search needs
 
 add-i : tie.Need-add-i Inv-loop μ-loop
 add-i c = omega arith
@@ -73,7 +73,7 @@ loop-again : tie.Need-loop-again Inv-loop μ-loop
 loop-again c =
     let l = c .before .before .before .before in
     let a = l .before .before .before .before .before .before .args in
-    (omega arith, l .loop .inv .1 ∙ first-miss _ _ _ (omega arith) (seen (a .stack .now) (a .edition) (a .item) (l .loop .i) (c .before .shows .ensures) ∙ c .if4 .left))
+    (omega arith, l .loop .inv .1 ∙ first-miss _ _ _ (omega arith) (seen (a .stack .now) (a .edition) (a .item) (l .loop .i) (c .before .shows-item .ensures) ∙ c .if4 .left))
 
 returns-3 : tie.Need-returns-3 Inv-loop μ-loop
 returns-3 c = sym (found (c .before .before) ∙ c .before .loop .inv .1 ∙ first-none _ _ _ (c .if3 .taken))
@@ -82,7 +82,7 @@ returns-4 : tie.Need-returns-4 Inv-loop μ-loop
 returns-4 c =
     let l = c .before .before .before .before in
     let a = l .before .before .before .before .before .before .args in
-    sym (found (l .before) ∙ l .loop .inv .1 ∙ first-hit _ _ _ (omega arith) (seen (a .stack .now) (a .edition) (a .item) (l .loop .i) (c .before .shows .ensures) ∙ c .if4 .taken))
+    sym (found (l .before) ∙ l .loop .inv .1 ∙ first-hit _ _ _ (omega arith) (seen (a .stack .now) (a .edition) (a .item) (l .loop .i) (c .before .shows-item .ensures) ∙ c .if4 .taken))
 
 pub locate-spec : {M : Type 1} → statement M
 locate-spec =
@@ -96,11 +96,11 @@ locate-spec =
     returns-2
     loop-holds
     mul-start
-    add-shows
-    sub-shows
-    part-shows-start
-    part-shows-end
-    shows-requires
+    add-shows-item
+    sub-shows-item
+    part-shows-item-start
+    part-shows-item-end
+    shows-item-requires
     add-i
     loop-less
     loop-again
