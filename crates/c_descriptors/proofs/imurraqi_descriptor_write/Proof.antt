@@ -1,0 +1,53 @@
+-- `imurraqi_descriptor_write` meets its contract, case by case of the answer. Assumes nothing.
+use borrow.Author.Needs.{needs}
+use mathlib.Core.Path.{refl}
+use native.Mathlib.Omega.{arith}
+use Rattle.c_types.proofs.Numbers.{passed}
+use Rattle.c_descriptors.proofs.imurraqi_descriptor_write.Statement.{statement}
+use Rattle.c_descriptors.proofs.imurraqi_descriptor_write.Tie as tie
+
+layout-of-requires : tie.Need-layout-of-requires
+layout-of-requires c κs = search needs
+
+write-requires : tie.Need-write-requires
+write-requires c κs = search needs
+
+enum-told : tie.Need-enum-told
+enum-told c = search needs
+
+enum-known-number : tie.Need-enum-known-number
+enum-known-number c = search needs
+
+refused-requires : tie.Need-refused-requires
+refused-requires c κs = search needs
+
+same-length : tie.Need-same-length
+same-length c = search needs
+
+returns : tie.Need-returns
+returns c =
+    let w = c .before .before .before .before .write in
+    rw (← (c .before .before .before .before .before .before .layout-of .ensures), ← (w .ensures .0), c .enum-told .given .1) (refl, w .ensures .1)
+
+same-length-2 : tie.Need-same-length-2
+same-length-2 c = search needs
+
+returns-2 : tie.Need-returns-2
+returns-2 c =
+    let w = c .before .before .before .before .before .before .write in
+    let k = c .before .before .number in
+    rw (← (c .before .before .before .before .before .before .before .before .layout-of .ensures), ← (w .ensures .0), k .given .1) (passed (k .given .0 .0) (omega arith) (c .refused .result) (c .refused .ensures), w .ensures .1)
+
+pub imurraqi-descriptor-write-spec : {M : Type 1} → statement M
+imurraqi-descriptor-write-spec =
+    tie.close
+    (tie.spec
+    layout-of-requires
+    write-requires
+    enum-told
+    enum-known-number
+    refused-requires
+    same-length
+    returns
+    same-length-2
+    returns-2)

@@ -1,0 +1,30 @@
+-- The answers of lines have few points and small refusals. Assumes nothing.
+use mathlib.Core.Path.{_≡_, refl, ap, _∙_}
+use mathlib.Core.Bool.{true}
+use mathlib.Core.List.{List}
+use Prim.Native.Nat.{ℕ}
+use lib.Ieee.{Float}
+use lib.ListN.{length}
+use Rattle.layout.specs.declared.Layout.{Layout}
+use Rattle.layout.specs.Layout.{validLayout, codesWithin}
+use Rattle.layout.specs.Refusal.{notANumber, codeTooHigh}
+use Rattle.line.specs.Answer.{fitting, points, unpackAnswer, packAnswer}
+use Rattle.line.proofs.Answers.{packed-points}
+use Rattle.packing.specs.Encode.{allNumbers, encodeAnswer}
+use Rattle.c_types.proofs.Lines.{smallLine, two, three, count}
+
+-- a line that fits its packed bytes
+packed-count : (l : Layout) (n bytes : ℕ) → validLayout l ≡ true → fitting n 3 bytes (l .bytes) ≡ true → smallLine (points l bytes) ≡ true
+packed-count l n bytes e f = ap smallLine (packed-points l n bytes e f) ∙ count n 3 bytes (l .bytes) f
+
+pub unpack-small : (l : Layout) (bytes codes : ℕ) → smallLine (unpackAnswer l bytes codes) ≡ true
+unfolding unpackAnswer
+unpack-small l bytes codes = two (validLayout l) (fitting bytes (l .bytes) codes 3) (points l bytes) (count bytes (l .bytes) codes 3)
+
+pub pack-small : (l : Layout) (cs : List ℕ) (bytes : ℕ) → smallLine (packAnswer l cs bytes) ≡ true
+unfolding packAnswer
+pack-small l cs bytes = three (validLayout l) (fitting (length cs) 3 bytes (l .bytes)) (codesWithin l cs) codeTooHigh (points l bytes) refl (packed-count l (length cs) bytes)
+
+pub encode-small : (l : Layout) (vs : List Float) (bytes : ℕ) → smallLine (encodeAnswer l vs bytes) ≡ true
+unfolding encodeAnswer
+encode-small l vs bytes = three (validLayout l) (fitting (length vs) 3 bytes (l .bytes)) (allNumbers vs) notANumber (points l bytes) refl (packed-count l (length vs) bytes)

@@ -1,3 +1,0 @@
-mod Histories
-mod Lines
-mod Numbers
