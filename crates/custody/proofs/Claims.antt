@@ -16,8 +16,8 @@ use Rattle.card_laws.proofs.Claims.{writes-no-other}
 use Rattle.custody_book.specs.History.{Rewrite}
 use Rattle.custody_book.specs.Meaning.{Meaning}
 use Rattle.custody_book.proofs.Claims.{agrees, means}
-use Rattle.custody.specs.Lists.{sum, rewritesOf}
-use Rattle.custody.specs.Replay.{askedBy, fitting, thenFitting, beginning}
+use Rattle.custody_rewrites.specs.Lists.{sum, rewritesOf, fitting}
+use Rattle.custody.specs.Replay.{askedBy, thenFitting, beginning}
 use Rattle.custody.specs.Claims.{editionsIn, lengthsIn, outputsIn, AsksAnyList, FitsAnyList, ReplaysAsMeant}
 
 pub asks-any-list : AsksAnyList

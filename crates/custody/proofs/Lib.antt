@@ -1,6 +1,3 @@
-mod Sums
-mod OneRewrite
-mod Going
 mod Last
 pub mod Whole
 pub mod Claims

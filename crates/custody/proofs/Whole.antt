@@ -1,13 +1,11 @@
 -- A replay, from what its parts left: the calls' story, which is the book's. Assumes nothing.
-use mathlib.Core.Path.{_≡_, refl, ap, ap₂, _∙_}
-use mathlib.Core.Bool.{Bool, true, false, not, _&&_}
+use mathlib.Core.Path.{_≡_, refl, sym, ap, ap₂, _∙_}
+use mathlib.Core.Bool.{Bool, true, false, cond}
 use mathlib.Core.List.{List, [], _∷_, _++_}
 use Prim.Native.Nat.{ℕ}
-use borrow.Author.Tests.{eqb-true}
-use lib.Dec.{eqb}
 use lib.Ieee.{Float}
 use lib.ListN.{length}
-use Rattle.lists.proofs.Tests.{and-left, and-right, and3}
+use Rattle.lists.proofs.Tests.{pass, stop}
 use Rattle.card_table.specs.Table.{cardSize}
 use Rattle.card_reader.specs.Reading.{readCard}
 use Rattle.card_writer.specs.declared.Writing.{Writing}
@@ -21,9 +19,10 @@ use Rattle.custody_book.specs.Meaning.{readingOf, decodingOf, valuesAfter}
 use Rattle.custody_book.proofs.Claims.{agrees}
 use Rattle.custody.specs.declared.Replayed.{Replayed}
 use Rattle.custody.specs.declared.Replayed.the-variants.{Ended, NotBegun}
-use Rattle.custody.specs.Lists.{sum, numberOf, rewritesOf, answersOf, outputsOf, cardOf}
-use Rattle.custody.specs.Replay.{Given, askedBy, fitting, thenFitting, beginning, history, replayAnswer, replayCard, replayOutputs, replayAnswers, replayValues}
-use Rattle.custody.specs.Rewriting.{cardAfterAll, outputsAfterAll, answersAfterAll}
+use Rattle.custody_rewrites.specs.Lists.{numberOf, rewritesOf, fitting}
+use Rattle.custody_rewrites.specs.Rewriting.{cardAfterAll, outputsAfterAll, answersAfterAll}
+use Rattle.custody.specs.Lists.{answersOf, outputsOf, cardOf}
+use Rattle.custody.specs.Replay.{Given, askedBy, thenFitting, beginning, history, replayAnswer, replayCard, replayOutputs, replayAnswers, replayValues}
 
 -- ---- the calls' story, part by part
 
@@ -55,22 +54,6 @@ module _ (last : ℕ) (packed : List ℕ) (values : List Float) where
   values-of card [] = refl
   values-of card (r ∷ rs) = values-of (cardAfter card r) rs
 
--- ---- what it means that all fits together
-
-pub parts : (card : ℕ) (editions lengths : List ℕ) (outputs answers : ℕ) → fitting card editions lengths outputs answers ≡ true
-    → (card ≡ cardSize) × (length lengths ≡ length editions) × (answers ≡ length editions) × (sum lengths ≡ outputs)
-parts card editions lengths outputs answers h =
-    let t₀ = eqb card cardSize in
-    let t₁ = eqb (length lengths) (length editions) in
-    let t₂ = eqb answers (length editions) in
-    let t₃ = eqb (sum lengths) outputs in
-    let p = and3 t₀ t₁ t₂ (and-left (t₀ && t₁ && t₂) t₃ h) in (
-      eqb-true card cardSize (p .0),
-      eqb-true (length lengths) (length editions) (p .1),
-      eqb-true answers (length editions) (p .2),
-      eqb-true (sum lengths) outputs (and-right (t₀ && t₁ && t₂) t₃ h),
-    )
-
 -- ---- what a replay answers and leaves
 
 module _ (g : Given) where
@@ -90,26 +73,40 @@ module _ (g : Given) where
   abbrev fits : Bool
   fits = fitting (length (g .card)) (g .editions) (g .lengths) (length (g .outputs)) (length (g .answers))
 
+  abbrev rs : List Rewrite
+  rs = rewritesOf (g .editions) (g .lengths) (g .outputs)
+
+  -- what all rewrites answered and left, from the first card on
+  abbrev Rewritten : List ℕ → Bool → (card outputs answers : List ℕ) → Type 0
+  Rewritten start r card outputs answers =
+      (r ≡ fits)
+      × (card ≡ cond fits (cardAfterAll start rs) (g .card))
+      × (outputs ≡ cond fits (outputsAfterAll start rs) (g .outputs))
+      × (answers ≡ cond fits (answersAfterAll start rs) (g .answers))
+
   pub not-written : (k : ℕ) → writeAnswer (g .first) (g .facts) cardSize ≡ Refused k → Replays (NotBegun k) (g .card) (g .outputs) (g .answers) (g .values)
   unfolding beginning
   not-written k h = not-begun k (ap (λ (w : Writing). thenFitting w fits) h)
 
-  module _ (w : writeAnswer (g .first) (g .facts) cardSize ≡ Done) where
-    pub misfit : fits ≡ false → Replays (NotBegun 13) (g .card) (g .outputs) (g .answers) (g .values)
+  module _ (w : writeAnswer (g .first) (g .facts) cardSize ≡ Done) (start : List ℕ) {card outputs answers : List ℕ} {r : Bool} (e : Rewritten start r card outputs answers) where
+    pub misfit : r ≡ false → Replays (NotBegun 13) card outputs answers (g .values)
     unfolding beginning
-    misfit n = not-begun 13 (ap₂ thenFitting w n)
+    misfit h =
+        let n = sym (e .0) ∙ h in
+        let b = not-begun 13 (ap₂ thenFitting w n) in
+        (b .0, e .1 ∙ pass (cardAfterAll start rs) n (b .1), e .2 ∙ pass (outputsAfterAll start rs) n (b .2), e .3 ∙ pass (answersAfterAll start rs) n (b .3), b .4)
 
     -- it began, with the first card written over `before`
-    module _ (n : fits ≡ true) (before : List ℕ) (l : length before ≡ cardSize) where
+    module _ (h : r ≡ true) (before : List ℕ) (l : length before ≡ cardSize) where
       abbrev first : List ℕ
       first = writeOutput (g .first) (g .facts) before
 
-      abbrev rs : List Rewrite
-      rs = rewritesOf (g .editions) (g .lengths) (g .outputs)
+      fit : fits ≡ true
+      fit = sym (e .0) ∙ h
 
       begins : beginning g ≡ Done
       unfolding beginning
-      begins = ap₂ thenFitting w n
+      begins = ap₂ thenFitting w fit
 
       agree : calls (askedBy g) before ≡ history g
       agree = agrees (askedBy g) before (writes-no-other (g .first) (g .facts) cardSize w) l
@@ -140,10 +137,14 @@ module _ (g : Given) where
             ap (λ (c : List ℕ). thenValues (readCard c l) p v) h ∙ values-of l p v first rs ∙ ap valuesAfter story-is,
           )
 
-      pub replays : (start card outputs answers : List ℕ) (r : Replayed) (values : List Float) → start ≡ first
-          → (card ≡ cardAfterAll start rs) × (outputs ≡ outputsAfterAll start rs) × (answers ≡ answersAfterAll start rs)
-          → (r ≡ Ended (readCard card (g .last)) (thenDecode (readCard card (g .last)) (length (g .packed)) (length (g .values)))) × (values ≡ thenValues (readCard card (g .last)) (g .packed) (g .values))
-          → Replays r card outputs answers values
-      replays start card outputs answers r values s h e =
-          let d = ended card (h .0 ∙ ap (λ (c : List ℕ). cardAfterAll c rs) s) in
-          (e .0 ∙ d .0, d .1, h .1 ∙ ap (λ (c : List ℕ). outputsAfterAll c rs) s ∙ d .2, h .2 ∙ ap (λ (c : List ℕ). answersAfterAll c rs) s ∙ d .3, e .1 ∙ d .4)
+      pub replays : (answer : Replayed) (values : List Float) → start ≡ first
+          → (answer ≡ Ended (readCard card (g .last)) (thenDecode (readCard card (g .last)) (length (g .packed)) (length (g .values)))) × (values ≡ thenValues (readCard card (g .last)) (g .packed) (g .values))
+          → Replays answer card outputs answers values
+      replays answer values s d =
+          let c = ended card (e .1 ∙ stop (g .card) fit ∙ ap (λ (b : List ℕ). cardAfterAll b rs) s) in (
+            d .0 ∙ c .0,
+            c .1,
+            e .2 ∙ stop (g .outputs) fit ∙ ap (λ (b : List ℕ). outputsAfterAll b rs) s ∙ c .2,
+            e .3 ∙ stop (g .answers) fit ∙ ap (λ (b : List ℕ). answersAfterAll b rs) s ∙ c .3,
+            d .1 ∙ c .4,
+          )

@@ -8,8 +8,8 @@ use Rattle.card_table.specs.Table.{cardSize}
 use Rattle.card_writer.specs.declared.Writing.the-variants.{Done}
 use Rattle.custody_book.specs.History.{Rewrite}
 use Rattle.custody_book.specs.Meaning.{Meaning}
-use Rattle.custody.specs.Lists.{rewritesOf}
-use Rattle.custody.specs.Replay.{Given, askedBy, fitting, beginning, history}
+use Rattle.custody_rewrites.specs.Lists.{rewritesOf, fitting}
+use Rattle.custody.specs.Replay.{Given, askedBy, beginning, history}
 
 -- ---- any list of rewrites, as flat lists
 

@@ -1,8 +1,7 @@
 -- What a replay of one card answers, and leaves in memory: the book's history, in flat lists. Assumes nothing.
 use Prim.Native.Nat.{ℕ}
-use mathlib.Core.Bool.{Bool, not, cond, _&&_}
+use mathlib.Core.Bool.{Bool, not, cond}
 use mathlib.Core.List.{List}
-use lib.Dec.{eqb}
 use lib.Ieee.{Float}
 use lib.ListN.{length}
 use Rattle.layout.specs.Refusal.{wrongLineOrOutput}
@@ -14,9 +13,10 @@ use Rattle.card_writer.specs.Writing.{writeAnswer}
 use Rattle.custody_book.specs.History.{Asked, Story, History}
 use Rattle.custody_book.specs.Book.{book}
 use Rattle.custody_book.specs.Meaning.{readingOf, decodingOf, valuesAfter}
+use Rattle.custody_rewrites.specs.Lists.{rewritesOf, fitting}
 use Rattle.custody.specs.declared.Replayed.{Replayed}
 use Rattle.custody.specs.declared.Replayed.the-variants.{Ended, NotBegun}
-use Rattle.custody.specs.Lists.{sum, rewritesOf, answersOf, outputsOf, cardOf}
+use Rattle.custody.specs.Lists.{answersOf, outputsOf, cardOf}
 
 -- all that a replay is given, memory as it lies before
 pub record Given : Type 0 where
@@ -44,14 +44,6 @@ askedBy g =
     }
 
 -- ---- whether it begins
-
--- the lists fit together: a place of a card's length, a length and an answer for each edition, and outputs as long as all lengths together
-abbrev pub fitting : (card : ℕ) (editions lengths : List ℕ) (outputs answers : ℕ) → Bool
-fitting card editions lengths outputs answers =
-    eqb card cardSize
-    && eqb (length lengths) (length editions)
-    && eqb answers (length editions)
-    && eqb (sum lengths) outputs
 
 -- as the first writing answers, 7, 9 or 11; then 13 where the lists do not fit together
 abbrev pub thenFitting : Writing → Bool → Writing

@@ -9,11 +9,9 @@ use card::Card;
 use card::Facts;
 use card::Reading;
 use card::Writing;
+use custody_rewrites::rewrite_all;
 use layout::refusal;
 use line::LineAnswer;
-
-mod fits;
-mod rewrites;
 
 // What a replay answers.
 pub enum Replayed {
@@ -84,11 +82,9 @@ pub fn replay(
     match card::write(first, facts, &mut start) {
         Writing::Refused(number) => Replayed::NotBegun(number),
         Writing::Done => {
-            if !fits::fits(card.len(), editions, lengths, outputs.len(), answers.len()) {
+            if !rewrite_all(&start, card, editions, lengths, outputs, answers) {
                 return Replayed::NotBegun(refusal::WRONG_LINE_OR_OUTPUT);
             }
-            rewrites::store(&start, card);
-            rewrites::rewrite_all(card, editions, lengths, outputs, answers);
             read_last(card, last, packed, values)
         }
     }

@@ -11,9 +11,9 @@ use lib.ListN.{length, length-drop, getD, set, take, drop, length-set, length-ap
 use lib.Seq.{take-all, drop-cons, take-suc-set, append-snoc, take-at, drop-at, length-take-le}
 use Rattle.card_table.specs.Table.{cardSize}
 use Rattle.custody_book.specs.History.{Rewrite}
-use Rattle.custody.specs.Lists.{sum, rewritesOf}
-use Rattle.custody.specs.Rewriting.{cardAfterAll, outputsAfterAll, answersAfterAll}
-use Rattle.custody.proofs.OneRewrite.{Left}
+use Rattle.custody_rewrites.specs.Lists.{sum, rewritesOf}
+use Rattle.custody_rewrites.specs.Rewriting.{cardAfterAll, outputsAfterAll, answersAfterAll}
+use Rattle.custody_rewrites.proofs.OneRewrite.{Left}
 
 -- the rewrites that are left, k of them and `at` bytes of the outputs being done
 abbrev pub rest : (editions lengths outputs : List ℕ) (at k : ℕ) → List Rewrite

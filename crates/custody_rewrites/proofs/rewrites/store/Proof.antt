@@ -1,12 +1,12 @@
--- `custody::rewrites::store` meets its contract: so far the output begins as the card does, and goes on as it was. Assumes nothing.
+-- `custody_rewrites::rewrites::store` meets its contract: so far the output begins as the card does, and goes on as it was. Assumes nothing.
 use mathlib.Core.Path.{_≡_, refl, _∙_}
 use mathlib.Core.List.{_++_}
 use Prim.Native.Nat.{_≤_, _-_}
 use native.Mathlib.Omega.{arith}
 use lib.ListN.{length, length-set, take, drop}
 use Rattle.card_writer.proofs.Copy.{copy-more, copy-all}
-use Rattle.custody.proofs.rewrites.store.Statement.{statement}
-use Rattle.custody.proofs.rewrites.store.Tie as tie
+use Rattle.custody_rewrites.proofs.rewrites.store.Statement.{statement}
+use Rattle.custody_rewrites.proofs.rewrites.store.Tie as tie
 
 abbrev Inv-loop : tie.InvT-loop
 Inv-loop bytes out₀ i₀ out i = (i ≤ length out) × (length out ≡ length out₀) × (out ≡ take i bytes ++ drop i out₀)

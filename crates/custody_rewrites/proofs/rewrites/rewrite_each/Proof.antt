@@ -1,13 +1,13 @@
--- `custody::rewrites::rewrite_all` meets its contract: each rewrite does the first of what is left. Assumes nothing.
+-- `custody_rewrites::rewrites::rewrite_each` meets its contract: each rewrite does the first of what is left. Assumes nothing.
 use mathlib.Core.Path.{sym, _∙_}
 use Prim.Native.Nat.{_+_, _-_, _≤_}
 use native.Mathlib.Nat.{add-sub-cancel-left}
 use native.Mathlib.Omega.{arith}
 use lib.ListN.{length, getD}
 use borrow.Author.Needs.{needs}
-use Rattle.custody.proofs.Going.{Going, going-start, going-end, fits, going-next-at}
-use Rattle.custody.proofs.rewrites.rewrite_all.Statement.{statement}
-use Rattle.custody.proofs.rewrites.rewrite_all.Tie as tie
+use Rattle.custody_rewrites.proofs.Going.{Going, going-start, going-end, fits, going-next-at}
+use Rattle.custody_rewrites.proofs.rewrites.rewrite_each.Statement.{statement}
+use Rattle.custody_rewrites.proofs.rewrites.rewrite_each.Tie as tie
 
 abbrev Inv-loop : tie.InvT-loop
 Inv-loop card₀ editions lengths outputs₀ answers₀ at₀ k₀ card outputs answers at k = Going editions lengths outputs₀ card₀ answers₀ outputs answers card at k
@@ -81,8 +81,8 @@ returns c =
     going-end (a .editions .now) (a .lengths .now) (a .outputs .now) (a .card .now) (a .answers .now) (o .outputs) (o .answers) (o .card) (o .at) (o .k)
     (o .inv) (omega arith) (omega arith) (omega arith)
 
-pub rewrite-all-spec : {M : Type 1} → statement M
-rewrite-all-spec =
+pub rewrite-each-spec : {M : Type 1} → statement M
+rewrite-each-spec =
     tie.close
     (tie.spec
     Inv-loop

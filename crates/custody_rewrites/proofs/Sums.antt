@@ -9,7 +9,7 @@ use borrow.Author.Tests.{eq-eqb, ne-eqb, eqb-true, eqb-false}
 use lib.Dec.{eqb}
 use lib.ListN.{length, getD, drop, drop-of-length-le}
 use lib.Seq.{drop-cons}
-use Rattle.custody.specs.Lists.{sum}
+use Rattle.custody_rewrites.specs.Lists.{sum}
 
 sum-drop : (ns : List ℕ) (i : ℕ) → i < length ns → sum (drop i ns) ≡ getD ns i 0 + sum (drop (i + 1) ns)
 sum-drop ns i h = rw add-one (ap sum (drop-cons ns i 0 h))

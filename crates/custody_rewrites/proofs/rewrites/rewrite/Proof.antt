@@ -1,11 +1,11 @@
--- `custody::rewrites::rewrite` meets its contract, by what the rewrite answered. Assumes nothing.
+-- `custody_rewrites::rewrites::rewrite` meets its contract, by what the rewrite answered. Assumes nothing.
 use mathlib.Core.Path.{sym, _∙_}
 use native.Mathlib.Omega.{arith}
 use denote.Ref.{now}
-use Rattle.custody.proofs.OneRewrite.{rewrite-done, left-refused, left-done}
+use Rattle.custody_rewrites.proofs.OneRewrite.{rewrite-done, left-refused, left-done}
 use borrow.Author.Needs.{needs}
-use Rattle.custody.proofs.rewrites.rewrite.Statement.{statement}
-use Rattle.custody.proofs.rewrites.rewrite.Tie as tie
+use Rattle.custody_rewrites.proofs.rewrites.rewrite.Statement.{statement}
+use Rattle.custody_rewrites.proofs.rewrites.rewrite.Tie as tie
 
 rewrite-requires : tie.Need-rewrite-requires
 rewrite-requires c κs = search needs

@@ -2,8 +2,7 @@
 ghost use mathlib.Core.Path.{_≡_};
 ghost use lib.Dec.{eqb};
 ghost use lib.ListN.{length};
-ghost use Rattle.custody.specs.Lists.{sum};
-ghost use Rattle.custody.specs.Replay.{fitting};
+ghost use Rattle.custody_rewrites.specs.Lists.{sum, fitting};
 use card::Card;
 
 // Whether the lengths add up to the total. They are taken off it one by one, as their sum could be too large.

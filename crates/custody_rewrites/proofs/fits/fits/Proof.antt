@@ -1,7 +1,7 @@
--- `custody::fits::fits` meets its contract: its tests are the definition's. Assumes nothing.
+-- `custody_rewrites::fits::fits` meets its contract: its tests are the definition's. Assumes nothing.
 use borrow.Author.Needs.{needs}
-use Rattle.custody.proofs.fits.fits.Statement.{statement}
-use Rattle.custody.proofs.fits.fits.Tie as tie
+use Rattle.custody_rewrites.proofs.fits.fits.Statement.{statement}
+use Rattle.custody_rewrites.proofs.fits.fits.Tie as tie
 
 fill-requires : tie.Need-fill-requires
 fill-requires c κs = search needs

@@ -4,8 +4,8 @@ ghost use lib.ListN.{length};
 ghost use Rattle.card_table.specs.Table.{cardSize};
 ghost use Rattle.card_writer.specs.Writing.{kept};
 ghost use Rattle.card.specs.Rewriting.{rewriteAnswer, rewriteOutput};
-ghost use Rattle.custody.specs.Rewriting.{cardAfterAll, outputsAfterAll, answersAfterAll};
-ghost use Rattle.custody.specs.Lists.{sum, numberOf, rewritesOf};
+ghost use Rattle.custody_rewrites.specs.Rewriting.{cardAfterAll, outputsAfterAll, answersAfterAll};
+ghost use Rattle.custody_rewrites.specs.Lists.{sum, numberOf, rewritesOf};
 use card::Writing;
 
 // Stores a card.
@@ -38,7 +38,7 @@ fn rewrite(card: &mut [u8], edition: u8, out: &mut [u8]) -> u8
 }
 
 // All of them. Where the card's place and all lists fit together, each takes the card that the last accepted one left.
-pub(crate) fn rewrite_all(
+pub(crate) fn rewrite_each(
     card: &mut [u8],
     editions: &[u8],
     lengths: &[usize],

@@ -1,14 +1,14 @@
--- `custody::fits::fill` meets its contract: what is left is the sum of the rest exactly if the total is the sum of all. Assumes nothing.
+-- `custody_rewrites::fits::fill` meets its contract: what is left is the sum of the rest exactly if the total is the sum of all. Assumes nothing.
 use mathlib.Core.Path.{_≡_, refl}
 use Prim.Native.Nat.{_≤_, _-_}
 use native.Mathlib.Omega.{arith}
 use borrow.Author.Needs.{needs}
 use lib.Dec.{eqb}
 use lib.ListN.{length, drop}
-use Rattle.custody.specs.Lists.{sum}
-use Rattle.custody.proofs.Sums.{sum-more, sum-over, sum-all}
-use Rattle.custody.proofs.fits.fill.Statement.{statement}
-use Rattle.custody.proofs.fits.fill.Tie as tie
+use Rattle.custody_rewrites.specs.Lists.{sum}
+use Rattle.custody_rewrites.proofs.Sums.{sum-more, sum-over, sum-all}
+use Rattle.custody_rewrites.proofs.fits.fill.Statement.{statement}
+use Rattle.custody_rewrites.proofs.fits.fill.Tie as tie
 
 abbrev Inv-loop : tie.InvT-loop
 Inv-loop lengths total left₀ i₀ left i = (i ≤ length lengths) × (eqb (sum (drop i lengths)) left ≡ eqb (sum lengths) total)

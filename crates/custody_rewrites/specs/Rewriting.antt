@@ -1,11 +1,11 @@
--- What only private functions cite: what the rewrites of a card leave, one after the other. Assumes nothing.
+-- What the rewrites of a card leave, one after the other. Assumes nothing.
 use Prim.Native.Nat.{ℕ}
 use mathlib.Core.List.{List, [], _∷_, _++_}
 use lib.ListN.{length}
 use Rattle.card.specs.Rewriting.{rewriteAnswer, rewriteOutput}
 use Rattle.custody_book.specs.History.{Rewrite}
 use Rattle.custody_book.specs.Calls.{cardAfter}
-use Rattle.custody.specs.Lists.{numberOf}
+use Rattle.custody_rewrites.specs.Lists.{numberOf}
 
 abbrev pub cardAfterAll : List ℕ → List Rewrite → List ℕ
 cardAfterAll card [] = card

@@ -16,7 +16,7 @@ use Rattle.card_writer.specs.Writing.{kept}
 use Rattle.card.specs.Rewriting.{rewriteAnswer, rewriteOutput}
 use Rattle.card_laws.specs.Claims.{thenLength}
 use Rattle.card_laws.proofs.Claims.{rewrites-in-order}
-use Rattle.custody.specs.Lists.{numberOf}
+use Rattle.custody_rewrites.specs.Lists.{numberOf}
 
 -- an accepted one has an output as long as a card
 pub rewrite-done : (b : List ℕ) (e bytes : ℕ) → rewriteAnswer b e bytes ≡ Done → bytes ≡ cardSize

@@ -1,0 +1,4 @@
+mod Sums
+mod OneRewrite
+mod Going
+pub mod Fitting
