@@ -1,5 +1,6 @@
 # make                       proves and builds the library and the list program, where missing or older than crates/
-# make install PREFIX=DIR    puts them, the header and the pkg-config file under DIR (under DESTDIR/DIR if that is given)
+# make install PREFIX=DIR    puts them, the header, the pkg-config file and the sources of the Rust binding under DIR
+#                            (under DESTDIR/DIR if that is given)
 # make uninstall PREFIX=DIR  takes them away again
 # make examples              runs the examples and compares what they print
 # make check                 the gate
@@ -8,6 +9,8 @@ VERSION = 0.1.0
 
 library = target/staticlib/libimurraqi.a
 program = target/bin/stack_list
+# Where the binding's sources go, under PREFIX. Its build.rs looks for the library in ../../../lib from there.
+binding = share/imurraqi/rust
 sources := crates.txt $(shell find crates -name '*.rt' -o -name '*.antt')
 
 # The C interface by subject, and what its crates rest on.
@@ -35,17 +38,20 @@ $(program): $(sources)
 
 install: all
 	$(places); \
-	install -d "$$to/lib/pkgconfig" "$$to/include" "$$to/bin"; \
+	install -d "$$to/lib/pkgconfig" "$$to/include" "$$to/bin" "$$to/$(binding)/src"; \
 	install -m 644 $(library) "$$to/lib"; \
 	install -m 644 include/imurraqi.h "$$to/include"; \
 	install -m 755 $(program) "$$to/bin"; \
+	install -m 644 bindings/rust/Cargo.toml bindings/rust/build.rs "$$to/$(binding)"; \
+	install -m 644 bindings/rust/src/*.rs "$$to/$(binding)/src"; \
 	{ printf 'prefix=%s\nversion=%s\n' "$$prefix" '$(VERSION)'; cat imurraqi.pc.in; } \
 	    >"$$to/lib/pkgconfig/imurraqi.pc"; \
 	chmod 644 "$$to/lib/pkgconfig/imurraqi.pc"
 
 uninstall:
 	$(places); \
-	rm -f "$$to/lib/libimurraqi.a" "$$to/lib/pkgconfig/imurraqi.pc" "$$to/include/imurraqi.h" "$$to/bin/stack_list"
+	rm -f "$$to/lib/libimurraqi.a" "$$to/lib/pkgconfig/imurraqi.pc" "$$to/include/imurraqi.h" "$$to/bin/stack_list"; \
+	rm -rf "$$to/share/imurraqi"
 
 examples: all
 	examples/run

@@ -2,14 +2,9 @@
 //! descriptor of its layout, and turns a line of its points into colors.
 //! Usage: example STACK
 
-mod imurraqi;
-
-use imurraqi::{Layout, Refused};
+use imurraqi::{access, range, Layout, Refusal, CARD_SIZE, DESCRIPTOR_SIZE};
 use std::process::ExitCode;
 
-const CARD: usize = 32;
-const DESCRIPTOR: usize = 76;
-const FULL: u8 = 2; // a range
 const POINTS: usize = 4;
 const CODES: usize = 3 * POINTS;
 
@@ -21,24 +16,28 @@ const PACKED: [u8; 4 * POINTS] = [
 ];
 
 /// What edition 2 shows of an item. Its layout is returned.
-fn show_item(stack: &[u8], item: u64) -> Result<Layout, Refused> {
+fn show_item(stack: &[u8], item: u64) -> Result<Layout, Refusal> {
     let index = imurraqi::stack_find(stack, 2, item)?;
-    let card = &stack[CARD * index..][..CARD];
-    let (layout, [width, height, item, access]) = imurraqi::card_read(card, 2)?;
-    let access = ["closed", "community", "open"][access as usize];
-    let (place, cards) = (index + 1, stack.len() / CARD);
+    let facts = imurraqi::card_read(&stack[CARD_SIZE * index..][..CARD_SIZE], 2)?;
+    let access = match facts.access {
+        access::CLOSED => "closed",
+        access::COMMUNITY => "community",
+        _ => "open",
+    };
+    let (place, cards) = (index + 1, stack.len() / CARD_SIZE);
+    let (item, width, height) = (facts.item, facts.width, facts.height);
     println!("item {item}: card {place} of {cards}, {width} by {height}, {access}");
-    Ok(layout)
+    Ok(facts.layout)
 }
 
 /// The line's codes, values and colors, by a descriptor.
-fn show_line(descriptor: &[u8]) -> Result<(), Refused> {
+fn show_line(descriptor: &[u8]) -> Result<(), Refusal> {
     let (mut codes, mut colors, mut values) = ([0; CODES], [0; CODES], [0.0; CODES]);
     let layout = imurraqi::descriptor_read(descriptor)?;
-    imurraqi::unpack_line(&layout, &PACKED, &mut codes)?;
-    imurraqi::ycbcr_to_rgb(&layout, FULL, &codes, &mut colors)?;
-    imurraqi::decode_line(&layout, &PACKED, &mut values)?;
-    let [_, _, _, depth, bytes, ..] = layout;
+    imurraqi::unpack_line(layout, &PACKED, &mut codes)?;
+    imurraqi::ycbcr_to_rgb(layout.conversion(range::FULL), &codes, &mut colors)?;
+    imurraqi::decode_line(layout, &PACKED, &mut values)?;
+    let (depth, bytes) = (layout.depth, layout.bytes);
     println!("points of {depth} bits a channel in {bytes} bytes");
     for i in (0..CODES).step_by(3) {
         let [y, cb, cr] = [codes[i], codes[i + 1], codes[i + 2]];
@@ -49,14 +48,14 @@ fn show_line(descriptor: &[u8]) -> Result<(), Refused> {
     Ok(())
 }
 
-fn show(stack: &[u8]) -> Result<(), Refused> {
+fn show(stack: &[u8]) -> Result<(), Refusal> {
     let layout = show_item(stack, 203002)?;
-    let mut descriptor = [0; DESCRIPTOR];
-    imurraqi::descriptor_write(&layout, &mut descriptor)?;
+    let mut descriptor = [0; DESCRIPTOR_SIZE];
+    imurraqi::descriptor_write(layout, &mut descriptor)?;
     show_line(&descriptor)?;
-    // A refusal is an answer too. 15: no card of the stack has the item.
-    if let Err(Refused(number)) = imurraqi::stack_find(stack, 2, 7) {
-        println!("item 7: {}", -number);
+    // A refusal is an answer too, in C minus its number: no card has the item.
+    if let Err(refusal @ Refusal::NO_ITEM) = imurraqi::stack_find(stack, 2, 7) {
+        println!("item 7: -{}", refusal.number());
     }
     Ok(())
 }
@@ -68,8 +67,8 @@ fn main() -> ExitCode {
     };
     match show(&stack) {
         Ok(()) => ExitCode::SUCCESS,
-        Err(Refused(number)) => {
-            eprintln!("refused {number}");
+        Err(refusal) => {
+            eprintln!("refused {}", refusal.number());
             ExitCode::FAILURE
         }
     }

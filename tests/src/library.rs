@@ -1,5 +1,7 @@
 //! The library under test, as plain functions.
 
+use imurraqi::ffi;
+
 use crate::guarded::{Guarded, Whole};
 
 use self::card::{CardRead, CardRewrite, CardWrite, StackFind};
@@ -8,6 +10,7 @@ use self::history::Replay;
 use self::memory::{InPlace, Memory};
 use self::program::StackList;
 
+pub mod binding;
 pub mod card;
 pub mod entry;
 pub mod history;
@@ -118,45 +121,6 @@ pub const fn linked<M: Memory>() -> Library {
 
 type Converting = unsafe extern "C" fn(u8, u8, u8, u8, *const u16, usize, *mut u16, usize) -> i64;
 
-extern "C" {
-    fn imurraqi_dequantize(
-        model: u8,
-        range: u8,
-        depth: u8,
-        channel: u8,
-        code: u16,
-        value: *mut f32,
-    ) -> i64;
-
-    fn imurraqi_quantize(model: u8, range: u8, depth: u8, channel: u8, value: f32) -> i64;
-
-    fn imurraqi_descriptor_read(bytes: *const u8, length: usize, layout: *mut u8) -> i64;
-
-    fn imurraqi_descriptor_write(layout: *const u8, out: *mut u8, out_length: usize) -> i64;
-
-    fn imurraqi_rgb_to_ycbcr(
-        primaries: u8,
-        depth: u8,
-        range_in: u8,
-        range_out: u8,
-        codes: *const u16,
-        length: usize,
-        out: *mut u16,
-        out_length: usize,
-    ) -> i64;
-
-    fn imurraqi_ycbcr_to_rgb(
-        primaries: u8,
-        depth: u8,
-        range_in: u8,
-        range_out: u8,
-        codes: *const u16,
-        length: usize,
-        out: *mut u16,
-        out_length: usize,
-    ) -> i64;
-}
-
 fn dequantize<M: Memory>(
     [model, range, depth, channel]: Setting,
     code: u16,
@@ -169,13 +133,13 @@ fn dequantize<M: Memory>(
     };
     let value = memory.output(slot).cast();
     // SAFETY: the pointer is to four aligned bytes that nothing else uses.
-    memory.answered(unsafe { imurraqi_dequantize(model, range, depth, channel, code, value) })
+    memory.answered(unsafe { ffi::imurraqi_dequantize(model, range, depth, channel, code, value) })
 }
 
 fn quantize<M: Memory>([model, range, depth, channel]: Setting, value: f32) -> i64 {
     // SAFETY: the function takes numbers alone.
     M::of(Entry::Quantize)
-        .answered(unsafe { imurraqi_quantize(model, range, depth, channel, value) })
+        .answered(unsafe { ffi::imurraqi_quantize(model, range, depth, channel, value) })
 }
 
 fn descriptor_read<M: Memory>(bytes: &[u8], layout: &mut Guarded<u8>) -> i64 {
@@ -184,10 +148,10 @@ fn descriptor_read<M: Memory>(bytes: &[u8], layout: &mut Guarded<u8>) -> i64 {
     // SAFETY: the pointers are to as many elements as the lengths say, eight for
     // the layout, and nothing else uses the output.
     let answer = unsafe {
-        imurraqi_descriptor_read(
+        ffi::imurraqi_descriptor_read(
             memory.input(bytes),
             bytes.len(),
-            memory.output(layout.whole()),
+            memory.output(layout.whole()).cast(),
         )
     };
     memory.answered(answer)
@@ -197,8 +161,8 @@ fn descriptor_write<M: Memory>(layout: Layout, out: &mut Guarded<u8>) -> i64 {
     let mut memory = M::of(Entry::DescriptorWrite);
     // SAFETY: as for `descriptor_read`.
     let answer = unsafe {
-        imurraqi_descriptor_write(
-            memory.input(&layout),
+        ffi::imurraqi_descriptor_write(
+            memory.input(&layout).cast(),
             memory.output(out.whole()),
             out.length(),
         )
@@ -213,8 +177,8 @@ fn convert<M: Memory>(
     out: &mut Guarded<u16>,
 ) -> i64 {
     let (entry, convert): (_, Converting) = match direction {
-        Direction::RgbToYcbcr => (Entry::RgbToYcbcr, imurraqi_rgb_to_ycbcr),
-        Direction::YcbcrToRgb => (Entry::YcbcrToRgb, imurraqi_ycbcr_to_rgb),
+        Direction::RgbToYcbcr => (Entry::RgbToYcbcr, ffi::imurraqi_rgb_to_ycbcr),
+        Direction::YcbcrToRgb => (Entry::YcbcrToRgb, ffi::imurraqi_ycbcr_to_rgb),
     };
     let mut memory = M::of(entry);
     // SAFETY: as for `descriptor_read`; nothing else uses the codes either.

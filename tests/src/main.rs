@@ -4,6 +4,7 @@ use std::env;
 use std::process::ExitCode;
 use std::time::Instant;
 
+use crate::library::binding::BINDING;
 use crate::library::LINKED;
 use crate::part::Part;
 use crate::tally::Tally;
@@ -60,14 +61,15 @@ fn usage() -> ExitCode {
     ExitCode::from(2)
 }
 
-/// Every part, those of the library again beside closed pages, then the self-check.
-/// Says whether all was well.
+/// Every part, those of the library again through its binding and beside closed
+/// pages, then the self-check. Says whether all was well.
 fn ordinary() -> bool {
     let start = Instant::now();
     let mut total = Tally::default();
     for part in part::library_parts().chain(part::reference_parts()) {
         total.add(run(part));
     }
+    total.add(through_the_binding());
     let (all_seen, beside_pages) = pages::run();
     total.add(beside_pages);
     let checked = self_check::run() & pages::self_check();
@@ -85,6 +87,21 @@ fn run(part: &Part) -> Tally {
     // This tally never stops early.
     let _ = (part.run)(&LINKED, &mut tally);
     println!("{:36}{:9} comparisons", part.name, tally.comparisons);
+    show_differences(&tally);
+    tally
+}
+
+/// Every part that tries the library, by the safe functions of its binding.
+fn through_the_binding() -> Tally {
+    let mut tally = Tally::default();
+    for part in part::entry_parts() {
+        // This tally never stops early.
+        let _ = (part.run)(&BINDING, &mut tally);
+    }
+    println!(
+        "{:36}{:9} comparisons",
+        "all again, through the binding", tally.comparisons
+    );
     show_differences(&tally);
     tally
 }

@@ -1,5 +1,6 @@
 //! The functions of the C interface on cards and stacks.
 
+use imurraqi::ffi;
 use reference::card::Facts;
 
 use crate::guarded::Guarded;
@@ -45,48 +46,17 @@ impl Told {
 /// An answer that no function gives, for a layout that is changed where it is lent.
 const LAYOUT_CHANGED: i64 = i64::MIN;
 
-extern "C" {
-    fn imurraqi_card_read(
-        card: *const u8,
-        length: usize,
-        edition: u8,
-        layout: *mut u8,
-        facts: *mut u64,
-    ) -> i64;
-
-    fn imurraqi_card_write(
-        edition: u8,
-        layout: *const u8,
-        width: u16,
-        height: u16,
-        item: u64,
-        access: u8,
-        out: *mut u8,
-        out_length: usize,
-    ) -> i64;
-
-    fn imurraqi_card_rewrite(
-        card: *const u8,
-        length: usize,
-        edition: u8,
-        out: *mut u8,
-        out_length: usize,
-    ) -> i64;
-
-    fn imurraqi_stack_find(stack: *const u8, length: usize, edition: u8, item: u64) -> i64;
-}
-
 pub fn card_read<M: Memory>(card: &mut Guarded<u8>, edition: u8, told: &mut Told) -> i64 {
     let mut memory = M::of(Entry::CardRead);
     // SAFETY: the pointers are to as many elements as the length says, eight for
     // the layout and four for the facts, and nothing else uses them.
     let answer = unsafe {
-        imurraqi_card_read(
+        ffi::imurraqi_card_read(
             memory.kept(card.whole()),
             card.length(),
             edition,
-            memory.output(told.layout.whole()),
-            memory.output(told.facts.whole()),
+            memory.output(told.layout.whole()).cast(),
+            memory.output(told.facts.whole()).cast(),
         )
     };
     memory.answered(answer)
@@ -98,9 +68,9 @@ pub fn card_write<M: Memory>(edition: u8, facts: Facts, out: &mut Guarded<u8>) -
     let mut memory = M::of(Entry::CardWrite);
     // SAFETY: as for `card_read`.
     let answer = unsafe {
-        imurraqi_card_write(
+        ffi::imurraqi_card_write(
             edition,
-            memory.kept(layout.whole()),
+            memory.kept(layout.whole()).cast(),
             facts.width,
             facts.height,
             facts.item,
@@ -121,7 +91,7 @@ pub fn card_rewrite<M: Memory>(card: &mut Guarded<u8>, edition: u8, out: &mut Gu
     let mut memory = M::of(Entry::CardRewrite);
     // SAFETY: as for `card_read`.
     let answer = unsafe {
-        imurraqi_card_rewrite(
+        ffi::imurraqi_card_rewrite(
             memory.kept(card.whole()),
             card.length(),
             edition,
@@ -136,5 +106,5 @@ pub fn stack_find<M: Memory>(stack: &mut Guarded<u8>, edition: u8, item: u64) ->
     let mut memory = M::of(Entry::StackFind);
     let cards = memory.kept(stack.whole());
     // SAFETY: as for `card_read`.
-    memory.answered(unsafe { imurraqi_stack_find(cards, stack.length(), edition, item) })
+    memory.answered(unsafe { ffi::imurraqi_stack_find(cards, stack.length(), edition, item) })
 }

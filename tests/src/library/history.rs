@@ -1,5 +1,6 @@
 //! The function of the C interface on the history of a card.
 
+use imurraqi::ffi;
 use reference::card::Facts;
 
 use crate::guarded::Guarded;
@@ -28,42 +29,14 @@ pub struct Replaying {
 
 pub type Replay = fn(&mut Replaying) -> i64;
 
-extern "C" {
-    fn imurraqi_replay(
-        first: u8,
-        layout: *const u8,
-        width: u16,
-        height: u16,
-        item: u64,
-        access: u8,
-        card: *mut u8,
-        card_length: usize,
-        editions: *const u8,
-        editions_length: usize,
-        lengths: *const usize,
-        lengths_length: usize,
-        outputs: *mut u8,
-        outputs_length: usize,
-        answers: *mut u8,
-        answers_length: usize,
-        last: u8,
-        packed: *const u8,
-        packed_length: usize,
-        values: *mut f32,
-        values_length: usize,
-        read: *mut u64,
-        decoded: *mut u64,
-    ) -> i64;
-}
-
 pub fn replay<M: Memory>(asked: &mut Replaying) -> i64 {
     let mut memory = M::of(Entry::Replay);
     // SAFETY: the pointers are to as many elements as the lengths say, eight for
     // the layout, thirteen and two for the last, and nothing else uses them.
     let answer = unsafe {
-        imurraqi_replay(
+        ffi::imurraqi_replay(
             asked.first,
-            memory.kept(asked.layout.whole()),
+            memory.kept(asked.layout.whole()).cast(),
             asked.facts.width,
             asked.facts.height,
             asked.facts.item,
@@ -83,8 +56,8 @@ pub fn replay<M: Memory>(asked: &mut Replaying) -> i64 {
             asked.packed.length(),
             memory.output(asked.values.whole()).cast(),
             asked.values.length(),
-            memory.output(asked.read.whole()),
-            memory.output(asked.decoded.whole()),
+            memory.output(asked.read.whole()).cast(),
+            memory.output(asked.decoded.whole()).cast(),
         )
     };
     memory.answered(answer)

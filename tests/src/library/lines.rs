@@ -1,68 +1,20 @@
 //! The functions of the C interface on lines and points.
 
+use imurraqi::ffi;
+
 use crate::guarded::Guarded;
 
 use super::entry::Entry;
 use super::memory::Memory;
 use super::Layout;
 
-extern "C" {
-    fn imurraqi_unpack_line(
-        layout: *const u8,
-        packed: *const u8,
-        length: usize,
-        out: *mut u16,
-        out_length: usize,
-    ) -> i64;
-
-    fn imurraqi_pack_line(
-        layout: *const u8,
-        codes: *const u16,
-        length: usize,
-        out: *mut u8,
-        out_length: usize,
-    ) -> i64;
-
-    fn imurraqi_decode_line(
-        layout: *const u8,
-        packed: *const u8,
-        length: usize,
-        out: *mut f32,
-        out_length: usize,
-    ) -> i64;
-
-    fn imurraqi_decode_point(
-        layout: *const u8,
-        bytes: *const u8,
-        length: usize,
-        point: *mut f32,
-    ) -> i64;
-
-    fn imurraqi_encode_line(
-        layout: *const u8,
-        values: *const f32,
-        length: usize,
-        out: *mut u8,
-        out_length: usize,
-    ) -> i64;
-
-    fn imurraqi_encode_point(
-        layout: *const u8,
-        first: f32,
-        second: f32,
-        third: f32,
-        out: *mut u8,
-        out_length: usize,
-    ) -> i64;
-}
-
 pub fn unpack_line<M: Memory>(layout: Layout, packed: &[u8], codes: &mut Guarded<u16>) -> i64 {
     let mut memory = M::of(Entry::UnpackLine);
     // SAFETY: the pointers are to as many elements as the lengths say, eight for
     // the layout, and nothing else uses the output.
     let answer = unsafe {
-        imurraqi_unpack_line(
-            memory.input(&layout),
+        ffi::imurraqi_unpack_line(
+            memory.input(&layout).cast(),
             memory.input(packed),
             packed.len(),
             memory.output(codes.whole()),
@@ -76,8 +28,8 @@ pub fn pack_line<M: Memory>(layout: Layout, codes: &[u16], packed: &mut Guarded<
     let mut memory = M::of(Entry::PackLine);
     // SAFETY: as for `unpack_line`.
     let answer = unsafe {
-        imurraqi_pack_line(
-            memory.input(&layout),
+        ffi::imurraqi_pack_line(
+            memory.input(&layout).cast(),
             memory.input(codes),
             codes.len(),
             memory.output(packed.whole()),
@@ -91,8 +43,8 @@ pub fn decode_line<M: Memory>(layout: Layout, packed: &[u8], values: &mut Guarde
     let mut memory = M::of(Entry::DecodeLine);
     // SAFETY: as for `unpack_line`; a float is as large as its bits.
     let answer = unsafe {
-        imurraqi_decode_line(
-            memory.input(&layout),
+        ffi::imurraqi_decode_line(
+            memory.input(&layout).cast(),
             memory.input(packed),
             packed.len(),
             memory.output(values.whole()).cast(),
@@ -107,8 +59,8 @@ pub fn decode_point<M: Memory>(layout: Layout, bytes: &[u8], point: &mut Guarded
     let mut memory = M::of(Entry::DecodePoint);
     // SAFETY: as for `decode_line`; the output has the length of a point.
     let answer = unsafe {
-        imurraqi_decode_point(
-            memory.input(&layout),
+        ffi::imurraqi_decode_point(
+            memory.input(&layout).cast(),
             memory.input(bytes),
             bytes.len(),
             memory.output(point.whole()).cast(),
@@ -121,8 +73,8 @@ pub fn encode_line<M: Memory>(layout: Layout, values: &[f32], packed: &mut Guard
     let mut memory = M::of(Entry::EncodeLine);
     // SAFETY: as for `unpack_line`.
     let answer = unsafe {
-        imurraqi_encode_line(
-            memory.input(&layout),
+        ffi::imurraqi_encode_line(
+            memory.input(&layout).cast(),
             memory.input(values),
             values.len(),
             memory.output(packed.whole()),
@@ -137,8 +89,8 @@ pub fn encode_point<M: Memory>(layout: Layout, values: [f32; 3], packed: &mut Gu
     let [first, second, third] = values;
     // SAFETY: as for `unpack_line`.
     let answer = unsafe {
-        imurraqi_encode_point(
-            memory.input(&layout),
+        ffi::imurraqi_encode_point(
+            memory.input(&layout).cast(),
             first,
             second,
             third,

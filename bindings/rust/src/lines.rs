@@ -1,0 +1,149 @@
+//! Lines and points.
+
+use crate::ffi;
+use crate::refusal::{accepted, answer};
+use crate::{Layout, Refusal};
+
+/// The most points of a line.
+pub const MOST_POINTS: usize = 4096;
+
+/// The C function of a line: a layout, what is given, and what is made.
+type Entry<I, O> =
+    unsafe extern "C" fn(*const [u8; Layout::SIZE], *const I, usize, *mut O, usize) -> i64;
+
+#[inline]
+fn line<I, O>(
+    entry: Entry<I, O>,
+    layout: Layout,
+    given: &[I],
+    out: &mut [O],
+) -> Result<usize, Refusal> {
+    // SAFETY: the pointers are to as many elements as the lengths say, and nothing
+    // else uses the output.
+    answer(unsafe {
+        entry(
+            &layout.to_bytes(),
+            given.as_ptr(),
+            given.len(),
+            out.as_mut_ptr(),
+            out.len(),
+        )
+    })
+}
+
+/// One point's three floats in channel order, as of a line of one point.
+/// Refused: 9, then 13.
+///
+/// ```
+/// use imurraqi::{decode_point, Layout, Refusal};
+///
+/// let layout = Layout::from_bytes([2, 2, 1, 10, 4, 0, 10, 20]);
+/// let point = [0xae, 0x00, 0x0f, 0x04];
+/// assert_eq!(decode_point(layout, &point), Ok([0.12557077, 0.5, -0.5]));
+/// assert_eq!(decode_point(layout, &point[1..]), Err(Refusal::WRONG_LINE_OR_OUTPUT));
+/// ```
+#[inline]
+pub fn decode_point(layout: Layout, bytes: &[u8]) -> Result<[f32; 3], Refusal> {
+    let mut point = [0.0; 3];
+    // SAFETY: the pointer is to as many bytes as the length says, and nothing else
+    // uses the point.
+    accepted(unsafe {
+        let layout = layout.to_bytes();
+        ffi::imurraqi_decode_point(&layout, bytes.as_ptr(), bytes.len(), &mut point)
+    })?;
+    Ok(point)
+}
+
+/// The floats of a line of packed points, three a point in channel order. Answers
+/// the count of points. Refused: 9, then 13.
+///
+/// ```
+/// use imurraqi::{decode_line, Layout};
+///
+/// let layout = Layout::from_bytes([2, 2, 1, 10, 4, 0, 10, 20]);
+/// let mut values = [0.0; 3];
+/// assert_eq!(decode_line(layout, &[0xae, 0x00, 0x0f, 0x04], &mut values), Ok(1));
+/// assert_eq!(values, [0.12557077, 0.5, -0.5]);
+/// ```
+#[inline]
+pub fn decode_line(layout: Layout, packed: &[u8], out: &mut [f32]) -> Result<usize, Refusal> {
+    line(ffi::imurraqi_decode_line, layout, packed, out)
+}
+
+/// Encodes one point's three floats, as a line of one point. Refused: 9, then 13,
+/// then 12.
+///
+/// ```
+/// use imurraqi::{encode_point, Layout, Refusal};
+///
+/// let layout = Layout::from_bytes([2, 2, 1, 10, 4, 0, 10, 20]);
+/// let mut point = [0; 4];
+/// encode_point(layout, [0.12557077, 0.5, -0.5], &mut point)?;
+/// assert_eq!(point, [0xae, 0x00, 0x0f, 0x04]);
+/// # Ok::<(), Refusal>(())
+/// ```
+#[inline]
+pub fn encode_point(layout: Layout, point: [f32; 3], out: &mut [u8]) -> Result<(), Refusal> {
+    let [first, second, third] = point;
+    // SAFETY: the pointer is to as many bytes as the length says, and nothing else
+    // uses them.
+    accepted(unsafe {
+        let (layout, out_len) = (layout.to_bytes(), out.len());
+        ffi::imurraqi_encode_point(&layout, first, second, third, out.as_mut_ptr(), out_len)
+    })
+}
+
+/// Encodes a line of floats, three a point in channel order, to packed points.
+/// Answers the count of points. Refused: 9, then 13, then 12.
+///
+/// ```
+/// use imurraqi::{encode_line, Layout, Refusal};
+///
+/// let layout = Layout::from_bytes([2, 2, 1, 10, 4, 0, 10, 20]);
+/// let mut packed = [0; 4];
+/// let not_a_number = [0.0, f32::NAN, 0.0];
+/// assert_eq!(encode_line(layout, &not_a_number, &mut packed), Err(Refusal::NOT_A_NUMBER));
+/// assert_eq!(encode_line(layout, &[0.12557077, 0.5, -0.5], &mut packed), Ok(1));
+/// assert_eq!(packed, [0xae, 0x00, 0x0f, 0x04]);
+/// ```
+#[inline]
+pub fn encode_line(layout: Layout, values: &[f32], out: &mut [u8]) -> Result<usize, Refusal> {
+    line(ffi::imurraqi_encode_line, layout, values, out)
+}
+
+/// The codes of a line of packed points, three a point in channel order. Answers the
+/// count of points. Refused: 9, then 13.
+///
+/// ```
+/// use imurraqi::{unpack_line, Layout, Refusal, MOST_POINTS};
+///
+/// let layout = Layout::from_bytes([2, 2, 1, 10, 4, 0, 10, 20]);
+/// let mut codes = [0; 3];
+/// assert_eq!(unpack_line(layout, &[0xae, 0x00, 0x0f, 0x04], &mut codes), Ok(1));
+/// assert_eq!(codes, [174, 960, 64]);
+///
+/// const POINTS: usize = MOST_POINTS + 1;
+/// let too_long = unpack_line(layout, &[0; 4 * POINTS], &mut [0; 3 * POINTS]);
+/// assert_eq!(too_long, Err(Refusal::WRONG_LINE_OR_OUTPUT));
+/// ```
+#[inline]
+pub fn unpack_line(layout: Layout, packed: &[u8], out: &mut [u16]) -> Result<usize, Refusal> {
+    line(ffi::imurraqi_unpack_line, layout, packed, out)
+}
+
+/// Packs a line of codes, three a point in channel order; unused bits are zero.
+/// Answers the count of points. Refused: 9, then 13, then 14.
+///
+/// ```
+/// use imurraqi::{pack_line, Layout, MOST_POINTS};
+///
+/// let layout = Layout::from_bytes([2, 2, 1, 10, 4, 0, 10, 20]);
+/// let mut packed = [0; 4 * MOST_POINTS];
+/// let codes = [174, 960, 64].repeat(MOST_POINTS);
+/// assert_eq!(pack_line(layout, &codes, &mut packed), Ok(MOST_POINTS));
+/// assert_eq!(packed[..4], [0xae, 0x00, 0x0f, 0x04]);
+/// ```
+#[inline]
+pub fn pack_line(layout: Layout, codes: &[u16], out: &mut [u8]) -> Result<usize, Refusal> {
+    line(ffi::imurraqi_pack_line, layout, codes, out)
+}

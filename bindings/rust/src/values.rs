@@ -1,0 +1,90 @@
+//! Single values.
+
+use crate::ffi;
+use crate::refusal::answer;
+use crate::Refusal;
+
+/// One channel: what its codes stand for.
+#[derive(Clone, Copy, Debug, PartialEq, Eq, Hash)]
+pub struct Setting {
+    /// One of [`model`](crate::model).
+    pub model: u8,
+    /// One of [`range`](crate::range).
+    pub range: u8,
+    /// Bits a code: 8, 10 or 12.
+    pub depth: u8,
+    /// 0, 1 or 2: R', G' and B', or Y', Cb and Cr.
+    pub channel: u8,
+}
+
+/// The value of a code, under the name of its kind.
+#[derive(Clone, Copy, Debug, PartialEq)]
+pub enum Dequantized {
+    /// R', G', B' or Y'.
+    Brightness(f32),
+    /// Cb or Cr.
+    Difference(f32),
+}
+
+impl Dequantized {
+    /// The value alone.
+    #[inline]
+    pub const fn value(self) -> f32 {
+        match self {
+            Dequantized::Brightness(value) | Dequantized::Difference(value) => value,
+        }
+    }
+}
+
+/// The float of a code: the f32 nearest to the fraction that it stands for.
+/// Refused: 9, then 14.
+///
+/// ```
+/// use imurraqi::{dequantize, model, range, Dequantized, Refusal, Setting};
+///
+/// let cb = Setting { model: model::YCBCR, range: range::NARROW, depth: 10, channel: 1 };
+/// assert_eq!(dequantize(cb, 960), Ok(Dequantized::Difference(0.5)));
+/// assert_eq!(dequantize(cb, 1024), Err(Refusal::CODE_TOO_HIGH));
+/// ```
+#[inline]
+pub fn dequantize(setting: Setting, code: u16) -> Result<Dequantized, Refusal> {
+    let Setting {
+        model,
+        range,
+        depth,
+        channel,
+    } = setting;
+    let mut value = 0.0;
+    // SAFETY: nothing else uses the value.
+    let kind = answer(unsafe {
+        ffi::imurraqi_dequantize(model, range, depth, channel, code, &mut value)
+    })?;
+    Ok(match kind {
+        0 => Dequantized::Brightness(value),
+        _ => Dequantized::Difference(value),
+    })
+}
+
+/// The code of a float, worked out from its exact value. Refused: 9, then 12.
+///
+/// ```
+/// use imurraqi::{model, quantize, range, Refusal, Setting};
+///
+/// let cb = Setting { model: model::YCBCR, range: range::NARROW, depth: 10, channel: 1 };
+/// assert_eq!(quantize(cb, 0.5), Ok(960));
+/// assert_eq!(quantize(cb, f32::INFINITY), Ok(1023));
+/// assert_eq!(quantize(cb, f32::NAN), Err(Refusal::NOT_A_NUMBER));
+/// ```
+#[inline]
+pub fn quantize(setting: Setting, value: f32) -> Result<u16, Refusal> {
+    let Setting {
+        model,
+        range,
+        depth,
+        channel,
+    } = setting;
+    // SAFETY: the function takes numbers alone.
+    let code = answer(unsafe { ffi::imurraqi_quantize(model, range, depth, channel, value) })?;
+    // A code has 12 bits at most.
+    Ok(code as u16)
+}
