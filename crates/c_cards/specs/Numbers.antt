@@ -2,31 +2,31 @@
 use Prim.Native.Nat.{ℕ}
 use mathlib.Core.List.{List, [], _∷_}
 use lib.IntN.{ℤ, pos, negℤ}
-use Rattle.card_reader.specs.declared.Reading.{Reading}
-use Rattle.card_reader.specs.declared.Reading.the-variants.{Shown, Refused as NotShown}
-use Rattle.card_writer.specs.declared.Writing.{Writing}
-use Rattle.card_writer.specs.declared.Writing.the-variants.{Done, Refused as NotWritten}
+use Rattle.card_reader.specs.declared.CardReading.{CardReading}
+use Rattle.card_reader.specs.declared.CardReading.the-variants.{Shown, Refused as NotShown}
+use Rattle.refusal.specs.declared.Written.{Written}
+use Rattle.refusal.specs.declared.Written.the-variants.{Done, Refused as NotWritten}
 use Rattle.stack.specs.declared.Found.{Found}
 use Rattle.stack.specs.declared.Found.the-variants.{At, Refused as NotFound}
 use Rattle.c_types.specs.Layouts.{layoutBytes}
 
 -- 0 for a card that is shown
-abbrev pub shownNumber : Reading → ℤ
+abbrev pub shownNumber : CardReading → ℤ
 shownNumber (Shown f) = pos 0
 shownNumber (NotShown k) = negℤ (pos k)
 
 -- the eight bytes behind the first pointer: the layout's, or what stood there before where the card is refused
-abbrev pub shownLayout : Reading → List ℕ → List ℕ
+abbrev pub shownLayout : CardReading → List ℕ → List ℕ
 shownLayout (Shown f) before = layoutBytes (f .layout)
 shownLayout (NotShown k) before = before
 
 -- the four numbers behind the second: width, height, item and access, or what stood there before
-abbrev pub shownFacts : Reading → List ℕ → List ℕ
+abbrev pub shownFacts : CardReading → List ℕ → List ℕ
 shownFacts (Shown f) before = f .width ∷ f .height ∷ f .item ∷ f .access ∷ []
 shownFacts (NotShown k) before = before
 
 -- 0 for a card that is written
-abbrev pub writtenNumber : Writing → ℤ
+abbrev pub writtenNumber : Written → ℤ
 writtenNumber Done = pos 0
 writtenNumber (NotWritten k) = negℤ (pos k)
 

@@ -10,9 +10,9 @@ ghost use Rattle.c_cards.specs.Numbers.{shownNumber, shownLayout, shownF
 use c_types::bytes_of;
 use c_types::facts_of;
 use c_types::refused;
+use card::CardReading;
 use card::Found;
-use card::Reading;
-use card::Writing;
+use refusal::Written;
 
 // What a card shows at an edition. Answers 0.
 #[no_mangle]
@@ -27,7 +27,7 @@ pub extern "C" fn imurraqi_card_read(
     ensures facts { λ _. ⌜ now (facts .exit) ≡ shownFacts (readCard (now (card .entry)) edition) (now (facts .entry)) ⌝ }
 {
     match card::read(card, edition) {
-        Reading::Shown(shown) => {
+        CardReading::Shown(shown) => {
             *layout = bytes_of(shown.layout);
             *facts = [
                 shown.width as u64,
@@ -37,7 +37,7 @@ pub extern "C" fn imurraqi_card_read(
             ];
             0
         }
-        Reading::Refused(number) => refused(number),
+        CardReading::Refused(number) => refused(number),
     }
 }
 
@@ -57,8 +57,8 @@ pub extern "C" fn imurraqi_card_write(
 {
     let facts = facts_of(layout, width, height, item, access);
     match card::write(edition, facts, out) {
-        Writing::Done => 0,
-        Writing::Refused(number) => refused(number),
+        Written::Done => 0,
+        Written::Refused(number) => refused(number),
     }
 }
 
@@ -69,8 +69,8 @@ pub extern "C" fn imurraqi_card_rewrite(card: &[u8], edition: u8, out: &mut [u8]
     ensures memory { λ _. ⌜ now (out .exit) ≡ rewriteOutput (now (card .entry)) edition (now (out .entry)) ⌝ }
 {
     match card::rewrite(card, edition, out) {
-        Writing::Done => 0,
-        Writing::Refused(number) => refused(number),
+        Written::Done => 0,
+        Written::Refused(number) => refused(number),
     }
 }
 

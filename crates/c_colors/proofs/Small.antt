@@ -7,7 +7,7 @@ use lib.Dec.{leb}
 use lib.ListN.{length}
 use Rattle.lists.specs.Lists.{every}
 use Rattle.layout.specs.Layout.{topOf}
-use Rattle.layout.specs.Refusal.{codeTooHigh}
+use Rattle.refusal.specs.Refusal.{codeTooHigh}
 use Rattle.line.specs.declared.LineAnswer.the-variants.{Points}
 use Rattle.line.specs.Answer.{fitting}
 use Rattle.color_model.specs.Line.{convertible, conversionAnswer}

@@ -2,23 +2,23 @@
 use Prim.Native.Nat.{ℕ}
 use mathlib.Core.List.{List}
 use lib.IntN.{ℤ, pos, negℤ}
-use Rattle.descriptor_reader.specs.declared.Reading.{Reading}
-use Rattle.descriptor_reader.specs.declared.Reading.the-variants.{Accepted, Refused as NoLayout}
-use Rattle.descriptor_writer.specs.declared.Writing.{Writing}
-use Rattle.descriptor_writer.specs.declared.Writing.the-variants.{Done, Refused as NotWritten}
+use Rattle.descriptor_reader.specs.declared.DescriptorReading.{DescriptorReading}
+use Rattle.descriptor_reader.specs.declared.DescriptorReading.the-variants.{Accepted, Refused as NoLayout}
+use Rattle.refusal.specs.declared.Written.{Written}
+use Rattle.refusal.specs.declared.Written.the-variants.{Done, Refused as NotWritten}
 use Rattle.c_types.specs.Layouts.{layoutBytes}
 
 -- 0 for a layout
-abbrev pub readNumber : Reading → ℤ
+abbrev pub readNumber : DescriptorReading → ℤ
 readNumber (Accepted l) = pos 0
 readNumber (NoLayout k) = negℤ (pos k)
 
 -- the eight bytes behind the pointer: the layout's, or what stood there before where it is refused
-abbrev pub readLayout : Reading → List ℕ → List ℕ
+abbrev pub readLayout : DescriptorReading → List ℕ → List ℕ
 readLayout (Accepted l) before = layoutBytes l
 readLayout (NoLayout k) before = before
 
 -- 0 for a descriptor written
-abbrev pub writtenNumber : Writing → ℤ
+abbrev pub writtenNumber : Written → ℤ
 writtenNumber Done = pos 0
 writtenNumber (NotWritten k) = negℤ (pos k)

@@ -8,8 +8,8 @@ ghost use Rattle.c_descriptors.specs.Numbers.{readNumber, readLayout, wr
 use c_types::bytes_of;
 use c_types::layout_of;
 use c_types::refused;
-use descriptor::Reading;
-use descriptor::Writing;
+use descriptor::DescriptorReading;
+use refusal::Written;
 
 // The layout that a descriptor tells. Answers 0.
 #[no_mangle]
@@ -18,11 +18,11 @@ pub extern "C" fn imurraqi_descriptor_read(bytes: &[u8], layout: &mut [u8; 8]) -
     ensures memory { λ _. ⌜ now (layout .exit) ≡ readLayout (readDescriptor (now (bytes .entry))) (now (layout .entry)) ⌝ }
 {
     match descriptor::read(bytes) {
-        Reading::Accepted(accepted) => {
+        DescriptorReading::Accepted(accepted) => {
             *layout = bytes_of(accepted);
             0
         }
-        Reading::Refused(number) => refused(number),
+        DescriptorReading::Refused(number) => refused(number),
     }
 }
 
@@ -33,7 +33,7 @@ pub extern "C" fn imurraqi_descriptor_write(layout: &[u8; 8], out: &mut [u8]) ->
     ensures memory { λ _. ⌜ now (out .exit) ≡ writeOutput (layoutOf (now (layout .entry))) (now (out .entry)) ⌝ }
 {
     match descriptor::write(layout_of(layout), out) {
-        Writing::Done => 0,
-        Writing::Refused(number) => refused(number),
+        Written::Done => 0,
+        Written::Refused(number) => refused(number),
     }
 }

@@ -5,14 +5,14 @@ use lib.IntN.{ℤ, pos, negℤ}
 use lib.ListN.{replicate}
 use Rattle.line.specs.declared.LineAnswer.{LineAnswer}
 use Rattle.line.specs.declared.LineAnswer.the-variants.{Points, Refused as NoLine}
-use Rattle.card_reader.specs.declared.Reading.{Reading}
-use Rattle.card_reader.specs.declared.Reading.the-variants.{Shown, Refused as NotShown}
+use Rattle.card_reader.specs.declared.CardReading.{CardReading}
+use Rattle.card_reader.specs.declared.CardReading.the-variants.{Shown, Refused as NotShown}
 use Rattle.custody.specs.declared.Replayed.{Replayed}
 use Rattle.custody.specs.declared.Replayed.the-variants.{Ended, NotBegun}
 use Rattle.c_types.specs.Layouts.{layoutBytes}
 
 -- the last reading: 0 and its layout, width, height, item and access, or the refusal's number and zeros
-abbrev pub readNumbers : Reading → List ℕ
+abbrev pub readNumbers : CardReading → List ℕ
 readNumbers (Shown f) = 0 ∷ (layoutBytes (f .layout) ++ (f .width ∷ f .height ∷ f .item ∷ f .access ∷ []))
 readNumbers (NotShown k) = k ∷ replicate 12 0
 

@@ -5,17 +5,17 @@ ghost use Rattle.c_types.specs.Layouts.{factsOf};
 ghost use Rattle.c_history.specs.History.{readNumbers, decodedNumbers, replayNumber, replayRead, replayDecoded};
 use c_types::facts_of;
 use c_types::refused;
-use card::Reading;
+use card::CardReading;
 use custody::Replayed;
 use line::LineAnswer;
 
 // The numbers of the last reading.
-fn read_numbers(reading: Reading) -> [u64; 13]
+fn read_numbers(reading: CardReading) -> [u64; 13]
     ensures { λ r. ⌜ r ≡ readNumbers reading ⌝ }
 {
     match reading {
-        Reading::Refused(number) => [number as u64, 0, 0, 0, 0, 0, 0, 0, 0, 0, 0, 0, 0],
-        Reading::Shown(facts) => {
+        CardReading::Refused(number) => [number as u64, 0, 0, 0, 0, 0, 0, 0, 0, 0, 0, 0, 0],
+        CardReading::Shown(facts) => {
             let layout = facts.layout;
             [
                 0,

@@ -7,7 +7,7 @@ use lib.Ieee.{Float}
 use lib.ListN.{length}
 use Rattle.layout.specs.declared.Layout.{Layout}
 use Rattle.layout.specs.Layout.{validLayout, codesWithin}
-use Rattle.layout.specs.Refusal.{notANumber, codeTooHigh}
+use Rattle.refusal.specs.Refusal.{notANumber, codeTooHigh}
 use Rattle.line.specs.Answer.{fitting, points, unpackAnswer, packAnswer}
 use Rattle.line.proofs.Answers.{packed-points}
 use Rattle.packing.specs.Encode.{allNumbers, encodeAnswer}

@@ -9,7 +9,7 @@ use lib.IntN.{ℤ, pos}
 use mir.Syntax.{w64}
 use mir.Val.{toZ, ofZ}
 use Rattle.lists.proofs.Tests.{and3}
-use Rattle.layout.specs.Refusal.{outside, wrongLineOrOutput}
+use Rattle.refusal.specs.Refusal.{outside, wrongLineOrOutput}
 use Rattle.line.specs.declared.LineAnswer.{LineAnswer}
 use Rattle.line.specs.declared.LineAnswer.the-variants.{Points, Refused}
 use Rattle.line.specs.Answer.{fitting}

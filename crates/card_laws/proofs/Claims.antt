@@ -12,12 +12,12 @@ use Rattle.lists.proofs.Tests.{pass}
 use Rattle.card_table.specs.Edition.{editionKnown, hasAccess}
 use Rattle.card_table.specs.Facts.{factsValid}
 use Rattle.card_table.specs.Table.{cardSize, cardBytes}
-use Rattle.card_reader.specs.declared.Reading.{Reading}
-use Rattle.card_reader.specs.declared.Reading.the-variants.{Shown, Refused as NotShown}
+use Rattle.card_reader.specs.declared.CardReading.{CardReading}
+use Rattle.card_reader.specs.declared.CardReading.the-variants.{Shown, Refused as NotShown}
 use Rattle.card_reader.specs.Reading.{readCard}
 use Rattle.card_reader.proofs.Shown.{accepted}
-use Rattle.card_writer.specs.declared.Writing.{Writing}
-use Rattle.card_writer.specs.declared.Writing.the-variants.{Done, Refused}
+use Rattle.refusal.specs.declared.Written.{Written}
+use Rattle.refusal.specs.declared.Written.the-variants.{Done, Refused}
 use Rattle.card_writer.specs.Writing.{unwritable, validAt, writeAnswer, kept, writeOutput}
 use Rattle.card.specs.Rewriting.{thenWrite, thenOutput, rewriteAnswer, rewriteOutput}
 use Rattle.card_writer.proofs.Answers.{changed}
@@ -30,16 +30,16 @@ use Rattle.card_laws.proofs.Later.{later-shown}
 use Rattle.card_laws.proofs.Rewritten.{rewrite-order, result-shows, never-opens}
 
 -- a row that did not apply
-row : (t : Bool) (n : ℕ) (rest : Writing) → cond t (Refused n) rest ≡ Done → (t ≡ false) × (rest ≡ Done)
+row : (t : Bool) (n : ℕ) (rest : Written) → cond t (Refused n) rest ≡ Done → (t ≡ false) × (rest ≡ Done)
 row true n rest h = let z : _≡_ {A = ℕ} 0 1 = cc in absurd (omega arith)
 row false n rest h = (refl, h)
 
 pub writes-no-other : WritesNoOther
 unfolding writeAnswer validAt
 writes-no-other e f bytes h =
-    let r₃ : Writing = cond (not (eqb bytes cardSize)) (Refused 13) Done in
-    let r₂ : Writing = cond (unwritable e f) (Refused 11) r₃ in
-    let r₁ : Writing = cond (not (factsValid f)) (Refused 9) r₂ in
+    let r₃ : Written = cond (not (eqb bytes cardSize)) (Refused 13) Done in
+    let r₂ : Written = cond (unwritable e f) (Refused 11) r₃ in
+    let r₁ : Written = cond (not (factsValid f)) (Refused 9) r₂ in
     let h₁ = row (not (editionKnown e)) 7 r₁ h in
     let h₂ = row (not (factsValid f)) 9 r₂ (h₁ .1) in
     let h₃ = row (unwritable e f) 11 r₃ (h₂ .1) in
@@ -74,13 +74,13 @@ shows-later-cards w e f others v n k l m = later-shown w e f others v n k l m
 
 pub writes-nothing-refused : WritesNothingRefused
 unfolding writeOutput
-writes-nothing-refused e f out k h = ap (λ (w : Writing). kept w out (cardBytes e f)) h
+writes-nothing-refused e f out k h = ap (λ (w : Written). kept w out (cardBytes e f)) h
 
 pub rewrites-nothing-refused : RewritesNothingRefused
 unfolding rewriteAnswer rewriteOutput
 rewrites-nothing-refused b e out k h = go (readCard b e) h
   where
-    go : (r : Reading) → thenWrite r e (length out) ≡ Refused k → thenOutput r e out ≡ out
+    go : (r : CardReading) → thenWrite r e (length out) ≡ Refused k → thenOutput r e out ≡ out
     go (NotShown n) q = refl
     go (Shown f) q = writes-nothing-refused e f out k q
 

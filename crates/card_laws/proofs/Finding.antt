@@ -7,10 +7,10 @@ use native.Mathlib.Omega.{arith}
 use borrow.Author.Tests.{eq-eqb, eqb-true}
 use lib.Dec.{eqb}
 use lib.ListN.{length, length-take, length-drop}
-use Rattle.card_reader.specs.declared.Reading.{Reading}
-use Rattle.card_reader.specs.declared.Reading.the-variants.{Shown, Refused as NotShown}
+use Rattle.card_reader.specs.declared.CardReading.{CardReading}
+use Rattle.card_reader.specs.declared.CardReading.the-variants.{Shown, Refused as NotShown}
 use Rattle.card_reader.specs.Reading.{readCard, showsItem}
-use Rattle.layout.specs.Refusal.{wrongLength, unknownEdition, noItem}
+use Rattle.refusal.specs.Refusal.{wrongLength, unknownEdition, noItem}
 use Rattle.stack.specs.declared.Found.the-variants.{Refused}
 use Rattle.stack.specs.Stack.{cardsIn, cardAt}
 use Rattle.stack.specs.Finding.{hasItem, located}
@@ -18,7 +18,7 @@ use Rattle.stack.proofs.First.{first-is, none-is, is-first, is-none}
 use Rattle.stack.proofs.Answers.{located-first, searched, searched-at, located-in}
 use Rattle.card_laws.specs.Finding.{Has, LocatesTheFirst, LocatesIt, NoneWhere15, FifteenWhereNone, FindsWholeCards}
 
-shown : (s : List ℕ) (e item k : ℕ) → k < cardsIn (length s) → (r : Reading) → readCard (cardAt s k) e ≡ r → showsItem item r ≡ true → Has s e item k
+shown : (s : List ℕ) (e item k : ℕ) → k < cardsIn (length s) → (r : CardReading) → readCard (cardAt s k) e ≡ r → showsItem item r ≡ true → Has s e item k
 shown s e item k h (Shown f) q t = record { inside = h; facts = f; shown = q; number = eqb-true _ _ t }
 shown s e item k h (NotShown n) q t = absurd (clash t)
   where

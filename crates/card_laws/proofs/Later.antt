@@ -13,7 +13,7 @@ use Rattle.card_table.specs.declared.facts.Facts.{Facts}
 use Rattle.card_table.specs.Edition.{newest, editionKnown, hasAccess, leastEdition}
 use Rattle.card_table.specs.Facts.{closed, accessKnown, factsValid, withAccess}
 use Rattle.card_table.specs.Table.{cardSize, cardBytes}
-use Rattle.card_reader.specs.declared.Reading.the-variants.{Shown}
+use Rattle.card_reader.specs.declared.CardReading.the-variants.{Shown}
 use Rattle.card_reader.specs.Reading.{accessOf, layoutIn, factsIn, frontRight, accessUnknown, endWrong, readCard}
 use Rattle.card_reader.proofs.Answers.{shown}
 use Rattle.card_laws.proofs.Valid.{sizes, valid-with, least-some}

@@ -13,11 +13,11 @@ use Rattle.card_table.specs.declared.facts.Facts.{Facts}
 use Rattle.card_table.specs.Edition.{newest, editionKnown, hasAccess, leastEdition}
 use Rattle.card_table.specs.Facts.{closed, withAccess}
 use Rattle.card_table.specs.Table.{cardBytes}
-use Rattle.card_reader.specs.declared.Reading.{Reading}
-use Rattle.card_reader.specs.declared.Reading.the-variants.{Shown, Refused as NotShown}
+use Rattle.card_reader.specs.declared.CardReading.{CardReading}
+use Rattle.card_reader.specs.declared.CardReading.the-variants.{Shown, Refused as NotShown}
 use Rattle.card_reader.specs.Reading.{readCard}
 use Rattle.card_reader.proofs.Shown.{Accepted, accepted, passed, same-facts}
-use Rattle.card_writer.specs.declared.Writing.the-variants.{Done}
+use Rattle.refusal.specs.declared.Written.the-variants.{Done}
 use Rattle.card_writer.specs.Writing.{validAt, writeAnswer}
 use Rattle.card_writer.proofs.Answers.{changed}
 use Rattle.card.specs.Rewriting.{thenWrite, rewriteAnswer, rewriteOutput}
@@ -33,7 +33,7 @@ pub rewrite-order : (b : List ℕ) (e bytes : ℕ) → rewriteAnswer b e bytes �
 unfolding rewriteAnswer
 rewrite-order b e bytes = go (readCard b e) (λ f h. valid-shown b e f (accepted b e f h))
   where
-    go : (r : Reading) → ((f : Facts) → r ≡ Shown f → validAt e f ≡ true) → thenWrite r e bytes ≡ thenLength r bytes
+    go : (r : CardReading) → ((f : Facts) → r ≡ Shown f → validAt e f ≡ true) → thenWrite r e bytes ≡ thenLength r bytes
     go (NotShown k) v = refl
     go (Shown f) v = write-valid e f bytes (at e f (v f refl))
 
@@ -50,8 +50,8 @@ module _ (b : List ℕ) (e : ℕ) (f : Facts) (out : List ℕ) (h : readCard b e
 seen-is : (f g : Facts) (e : ℕ) → shows f e ≡ Shown g → withAccess f (cond (hasAccess e) (f .access) closed) ≡ g
 unfolding shows
 seen-is f g e h =
-    let r₃ : Reading = Shown (withAccess f (cond (hasAccess e) (f .access) closed)) in
-    let r₂ : Reading = cond (ltb e (leastEdition (f .layout))) (NotShown 8) r₃ in
+    let r₃ : CardReading = Shown (withAccess f (cond (hasAccess e) (f .access) closed)) in
+    let r₂ : CardReading = cond (ltb e (leastEdition (f .layout))) (NotShown 8) r₃ in
     let h₂ = passed (not (editionKnown e)) 7 r₂ g h in
     let h₃ = passed (ltb e (leastEdition (f .layout))) 8 r₃ g (h₂ .1) in
     same-facts (withAccess f (cond (hasAccess e) (f .access) closed)) g (h₃ .1)
@@ -74,6 +74,6 @@ pub never-opens : (b : List ℕ) (e e′ : ℕ) (g : Facts) (out : List ℕ) →
 unfolding rewriteAnswer
 never-opens b e e′ g out d s = go (readCard b e) refl d
   where
-    go : (r : Reading) → readCard b e ≡ r → thenWrite r e (length out) ≡ Done → (g .access ≡ closed) ⊎ (readCard b 2 ≡ Shown g)
+    go : (r : CardReading) → readCard b e ≡ r → thenWrite r e (length out) ≡ Done → (g .access ≡ closed) ⊎ (readCard b 2 ≡ Shown g)
     go (NotShown k) p q = let z : _≡_ {A = ℕ} 0 1 = cc in absurd (omega arith)
     go (Shown f) p q = not-opened b e e′ f g (accepted b e f p) p (sym (result-shows b e f out p q e′) ∙ s)

@@ -12,7 +12,7 @@ use Rattle.card_table.specs.declared.facts.Facts.{Facts}
 use Rattle.card_table.specs.Edition.{editionKnown, hasAccess, leastEdition}
 use Rattle.card_table.specs.Facts.{sideKnown, closed, accessKnown, factsValid, withAccess}
 use Rattle.card_table.specs.Table.{cardSize}
-use Rattle.card_writer.specs.declared.Writing.the-variants.{Done, Refused}
+use Rattle.refusal.specs.declared.Written.the-variants.{Done, Refused}
 use Rattle.card_writer.specs.Writing.{unwritable, validAt, writeAnswer}
 
 pub or-left : (a b : Bool) → a || b ≡ false → a ≡ false

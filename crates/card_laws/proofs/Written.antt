@@ -14,7 +14,7 @@ use Rattle.card_table.specs.Edition.{editionKnown, hasAccess, leastEdition}
 use Rattle.card_table.specs.Facts.{closed, accessKnown, withAccess}
 use Rattle.card_table.specs.Table.{cardSize, cardBytes}
 use Rattle.card_table.proofs.Table.{length-card}
-use Rattle.card_reader.specs.declared.Reading.the-variants.{Shown}
+use Rattle.card_reader.specs.declared.CardReading.the-variants.{Shown}
 use Rattle.card_reader.specs.Reading.{accessOf, layoutIn, factsIn, frontRight, tableHolds, accessUnknown, endWrong, readCard}
 use Rattle.card_reader.proofs.Answers.{refused-7, refused-8, shown}
 use Rattle.card_laws.specs.Claims.{shows}

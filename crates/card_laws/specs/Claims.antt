@@ -7,23 +7,23 @@ use mathlib.Core.List.{List, _++_}
 use lib.Dec.{eqb, ltb}
 use lib.ListN.{length, getD, take}
 use Rattle.lists.specs.Bytes.{areBytes}
-use Rattle.layout.specs.Refusal.{unknownEdition, laterEdition, wrongLineOrOutput}
+use Rattle.refusal.specs.Refusal.{unknownEdition, laterEdition, wrongLineOrOutput}
 use Rattle.card_table.specs.declared.facts.Facts.{Facts}
 use Rattle.card_table.specs.Edition.{editionKnown, hasAccess, leastEdition}
 use Rattle.card_table.specs.Facts.{closed, accessKnown, factsValid, withAccess}
 use Rattle.card_table.specs.Table.{cardSize, cardBytes}
-use Rattle.card_reader.specs.declared.Reading.{Reading}
-use Rattle.card_reader.specs.declared.Reading.the-variants.{Shown, Refused as NotShown}
+use Rattle.card_reader.specs.declared.CardReading.{CardReading}
+use Rattle.card_reader.specs.declared.CardReading.the-variants.{Shown, Refused as NotShown}
 use Rattle.card_reader.specs.Reading.{readCard}
-use Rattle.card_writer.specs.declared.Writing.{Writing}
-use Rattle.card_writer.specs.declared.Writing.the-variants.{Done, Refused}
+use Rattle.refusal.specs.declared.Written.{Written}
+use Rattle.refusal.specs.declared.Written.the-variants.{Done, Refused}
 use Rattle.card_writer.specs.Writing.{validAt, writeAnswer, writeOutput}
 use Rattle.card.specs.Rewriting.{rewriteAnswer, rewriteOutput}
 
 -- ---- a card that was written
 
 -- what facts are to an edition: 7 where there is no such edition, 8 where the layout needs a later one, and else the facts, closed to an edition that has no access
-unfoldable pub shows : Facts → ℕ → Reading
+unfoldable pub shows : Facts → ℕ → CardReading
 shows f e =
     cond (not (editionKnown e)) (NotShown unknownEdition)
     (cond (ltb e (leastEdition (f .layout))) (NotShown laterEdition)
@@ -89,7 +89,7 @@ RewritesNothingRefused = (b : List ℕ) (e : ℕ) (out : List ℕ) (k : ℕ) →
 -- ---- a rewrite, of any bytes
 
 -- the reading's number, then 13
-abbrev pub thenLength : Reading → ℕ → Writing
+abbrev pub thenLength : CardReading → ℕ → Written
 thenLength (NotShown k) bytes = Refused k
 thenLength (Shown f) bytes = cond (not (eqb bytes cardSize)) (Refused wrongLineOrOutput) Done
 

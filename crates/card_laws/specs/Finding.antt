@@ -4,11 +4,11 @@ use mathlib.Core.Bool.{true}
 use mathlib.Core.Path.{_≡_}
 use mathlib.Core.List.{List}
 use lib.ListN.{length}
-use Rattle.layout.specs.Refusal.{noItem}
+use Rattle.refusal.specs.Refusal.{noItem}
 use Rattle.card_table.specs.declared.facts.Facts.{Facts}
 use Rattle.card_table.specs.Edition.{editionKnown}
 use Rattle.card_table.specs.Table.{cardSize}
-use Rattle.card_reader.specs.declared.Reading.the-variants.{Shown}
+use Rattle.card_reader.specs.declared.CardReading.the-variants.{Shown}
 use Rattle.card_reader.specs.Reading.{readCard}
 use Rattle.stack.specs.declared.Found.the-variants.{At, Refused}
 use Rattle.stack.specs.Stack.{cardsIn, wholeStack, cardAt}

@@ -8,7 +8,7 @@ use lib.ListN.{length, getD}
 use Rattle.lists.proofs.Tests.{pass, stop}
 use Rattle.card_table.specs.Edition.{editionKnown}
 use Rattle.card_table.specs.Table.{cardSize}
-use Rattle.card_reader.specs.declared.Reading.the-variants.{Shown, Refused}
+use Rattle.card_reader.specs.declared.CardReading.the-variants.{Shown, Refused}
 use Rattle.card_reader.specs.Reading.{writerOf, factsIn, frontRight, accessUnknown, endWrong, readCard}
 
 module _ (b : List ℕ) (e : ℕ) where

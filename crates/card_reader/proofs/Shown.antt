@@ -11,12 +11,12 @@ use Rattle.lists.specs.Bytes.{numberAt}
 use Rattle.card_table.specs.declared.facts.Facts.{Facts}
 use Rattle.card_table.specs.Edition.{editionKnown}
 use Rattle.card_table.specs.Table.{cardSize}
-use Rattle.card_reader.specs.declared.Reading.{Reading}
-use Rattle.card_reader.specs.declared.Reading.the-variants.{Shown, Refused}
+use Rattle.card_reader.specs.declared.CardReading.{CardReading}
+use Rattle.card_reader.specs.declared.CardReading.the-variants.{Shown, Refused}
 use Rattle.card_reader.specs.Reading.{writerOf, factsIn, frontRight, accessUnknown, endWrong, readCard, showsItem}
 
 -- a row that did not apply
-pub passed : (t : Bool) (n : ℕ) (rest : Reading) (f : Facts) → cond t (Refused n) rest ≡ Shown f → (t ≡ false) × (rest ≡ Shown f)
+pub passed : (t : Bool) (n : ℕ) (rest : CardReading) (f : Facts) → cond t (Refused n) rest ≡ Shown f → (t ≡ false) × (rest ≡ Shown f)
 passed true n rest f h = let z : _≡_ {A = ℕ} 0 1 = cc in absurd (omega arith)
 passed false n rest f h = (refl, h)
 
@@ -35,12 +35,12 @@ pub record Accepted (b : List ℕ) (e : ℕ) (f : Facts) : Type 0 where
 pub accepted : (b : List ℕ) (e : ℕ) (f : Facts) → readCard b e ≡ Shown f → Accepted b e f
 unfolding readCard
 accepted b e f h =
-    let r₇ : Reading = cond (endWrong b e) (Refused 9) (Shown (factsIn b e)) in
-    let r₆ : Reading = cond (accessUnknown (writerOf b) (getD b 24 0) e) (Refused 10) r₇ in
-    let r₅ : Reading = cond (not (frontRight b (factsIn b e))) (Refused 9) r₆ in
-    let r₄ : Reading = cond (ltb e (getD b 0 0)) (Refused 8) r₅ in
-    let r₃ : Reading = cond (eqb (getD b 0 0) 0) (Refused 9) r₄ in
-    let r₂ : Reading = cond (not (editionKnown e)) (Refused 7) r₃ in
+    let r₇ : CardReading = cond (endWrong b e) (Refused 9) (Shown (factsIn b e)) in
+    let r₆ : CardReading = cond (accessUnknown (writerOf b) (getD b 24 0) e) (Refused 10) r₇ in
+    let r₅ : CardReading = cond (not (frontRight b (factsIn b e))) (Refused 9) r₆ in
+    let r₄ : CardReading = cond (ltb e (getD b 0 0)) (Refused 8) r₅ in
+    let r₃ : CardReading = cond (eqb (getD b 0 0) 0) (Refused 9) r₄ in
+    let r₂ : CardReading = cond (not (editionKnown e)) (Refused 7) r₃ in
     let h₂ = passed (not (eqb (length b) cardSize)) 1 r₂ f h in
     let h₃ = passed (not (editionKnown e)) 7 r₃ f (h₂ .1) in
     let h₄ = passed (eqb (getD b 0 0) 0) 9 r₄ f (h₃ .1) in
@@ -64,7 +64,7 @@ module _ (b : List ℕ) (e item : ℕ) (h : length b ≡ cardSize → numberAt b
   unfolding factsIn
   other-item = go (readCard b e) refl
     where
-      go : (r : Reading) → readCard b e ≡ r → showsItem item r ≡ false
+      go : (r : CardReading) → readCard b e ≡ r → showsItem item r ≡ false
       go (Refused k) p = refl
       go (Shown f) p =
           let a = accepted b e f p in

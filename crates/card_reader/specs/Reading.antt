@@ -6,10 +6,10 @@ use lib.Dec.{eqb, leb, ltb}
 use lib.ListN.{length, getD}
 use Rattle.lists.specs.Bytes.{numberAt}
 use Rattle.layout.specs.declared.Layout.{Layout}
-use Rattle.layout.specs.Refusal.{wrongLength, unknownEdition, laterEdition, outside, unknownAccess}
+use Rattle.refusal.specs.Refusal.{wrongLength, unknownEdition, laterEdition, outside, unknownAccess}
 use Rattle.card_table.specs.declared.facts.Facts.{Facts}
-use Rattle.card_reader.specs.declared.Reading.{Reading}
-use Rattle.card_reader.specs.declared.Reading.the-variants.{Shown, Refused}
+use Rattle.card_reader.specs.declared.CardReading.{CardReading}
+use Rattle.card_reader.specs.declared.CardReading.the-variants.{Shown, Refused}
 use Rattle.card_table.specs.Edition.{editionKnown, hasAccess, leastEdition}
 use Rattle.card_table.specs.Facts.{closed, accessKnown, factsValid}
 use Rattle.card_table.specs.Table.{cardSize}
@@ -77,7 +77,7 @@ endWrong b e =
 -- ---- the answer
 
 -- in the order 1, 7, 9 if byte 0 is 0, 8, 9 for bytes 1 to 23 and byte 0 too high or low for the layout, 10, 9 for bytes 24 to 31
-unfoldable pub readCard : List ℕ → ℕ → Reading
+unfoldable pub readCard : List ℕ → ℕ → CardReading
 readCard b e =
     cond (not (eqb (length b) cardSize)) (Refused wrongLength)
     (cond (not (editionKnown e)) (Refused unknownEdition)
@@ -89,6 +89,6 @@ readCard b e =
     (Shown (factsIn b e))))))))
 
 -- a reading shows the item; one that is refused shows none
-abbrev pub showsItem : ℕ → Reading → Bool
+abbrev pub showsItem : ℕ → CardReading → Bool
 showsItem item (Shown f) = eqb (f .item) item
 showsItem item (Refused k) = false

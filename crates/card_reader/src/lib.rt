@@ -4,46 +4,45 @@ ghost use Rattle.card_reader.specs.Reading.{readCard, showsItem};
 use card_table::Card;
 use card_table::Facts;
 use card_table::edition;
-use layout::refusal;
 
 mod access;
 mod front;
 mod number;
 
 // The facts that a card shows, or the refusal's number.
-pub enum Reading {
+pub enum CardReading {
     Shown(Facts),
     Refused(u8),
 }
 
 // What a card shows at an edition. Refused: 1, 7, 9 where byte 0 is 0, 8, 9 for
 // bytes 1 to 23 and a byte 0 that is not the layout's, 10, 9 for bytes 24 to 31.
-pub fn read(bytes: &[u8], edition: u8) -> Reading
+pub fn read(bytes: &[u8], edition: u8) -> CardReading
     ensures answer { λ r. ⌜ r ≡ readCard (now (bytes .entry)) edition ⌝ }
 {
     if bytes.len() != Card::SIZE {
-        return Reading::Refused(refusal::WRONG_LENGTH);
+        return CardReading::Refused(refusal::WRONG_LENGTH);
     }
     if !edition::known(edition) {
-        return Reading::Refused(refusal::UNKNOWN_EDITION);
+        return CardReading::Refused(refusal::UNKNOWN_EDITION);
     }
     if bytes[0] == 0 {
-        return Reading::Refused(refusal::OUTSIDE);
+        return CardReading::Refused(refusal::OUTSIDE);
     }
     if edition < bytes[0] {
-        return Reading::Refused(refusal::LATER_EDITION);
+        return CardReading::Refused(refusal::LATER_EDITION);
     }
     let facts = front::facts_in(bytes, edition);
     if !front::front_right(bytes, facts) {
-        return Reading::Refused(refusal::OUTSIDE);
+        return CardReading::Refused(refusal::OUTSIDE);
     }
     if access::unknown(bytes[1], bytes[24], edition) {
-        return Reading::Refused(refusal::UNKNOWN_ACCESS);
+        return CardReading::Refused(refusal::UNKNOWN_ACCESS);
     }
     if access::end_wrong(bytes, edition) {
-        return Reading::Refused(refusal::OUTSIDE);
+        return CardReading::Refused(refusal::OUTSIDE);
     }
-    Reading::Shown(facts)
+    CardReading::Shown(facts)
 }
 
 // Whether an edition reads a card and it has the item's number. The number is looked at first: most cards of a stack have
@@ -58,7 +57,7 @@ pub fn shows_item(bytes: &[u8], edition: u8, item: u64) -> bool
         return false;
     }
     match read(bytes, edition) {
-        Reading::Shown(facts) => facts.item == item,
-        Reading::Refused(_) => false,
+        CardReading::Shown(facts) => facts.item == item,
+        CardReading::Refused(_) => false,
     }
 }

@@ -10,8 +10,8 @@ use Rattle.card_table.specs.declared.facts.Facts.{Facts}
 use Rattle.card_table.specs.Edition.{editionKnown}
 use Rattle.card_table.specs.Facts.{factsValid}
 use Rattle.card_table.specs.Table.{cardSize, cardBytes}
-use Rattle.card_writer.specs.declared.Writing.{Writing}
-use Rattle.card_writer.specs.declared.Writing.the-variants.{Done, Refused}
+use Rattle.refusal.specs.declared.Written.{Written}
+use Rattle.refusal.specs.declared.Written.the-variants.{Done, Refused}
 use Rattle.card_writer.specs.Writing.{unwritable, writeAnswer, kept, writeOutput}
 
 module _ (e : ℕ) (f : Facts) (out : List ℕ) where
@@ -41,8 +41,8 @@ module _ (e : ℕ) (f : Facts) (out : List ℕ) where
   -- what the output then holds
   pub unchanged : (n : ℕ) → Refused n ≡ writeAnswer e f (length out) → out ≡ writeOutput e f out
   unfolding writeOutput
-  unchanged n t = ap (λ (a : Writing). kept a out (cardBytes e f)) t
+  unchanged n t = ap (λ (a : Written). kept a out (cardBytes e f)) t
 
   pub changed : (bytes : List ℕ) → Done ≡ writeAnswer e f (length out) → bytes ≡ cardBytes e f → bytes ≡ writeOutput e f out
   unfolding writeOutput
-  changed bytes t q = q ∙ ap (λ (a : Writing). kept a out (cardBytes e f)) t
+  changed bytes t q = q ∙ ap (λ (a : Written). kept a out (cardBytes e f)) t

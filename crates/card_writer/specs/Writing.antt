@@ -4,10 +4,10 @@ use mathlib.Core.Bool.{Bool, not, cond, _&&_, _||_}
 use mathlib.Core.List.{List}
 use lib.Dec.{eqb, ltb}
 use lib.ListN.{length}
-use Rattle.layout.specs.Refusal.{unknownEdition, outside, unwritable as unwritableRow, wrongLineOrOutput}
+use Rattle.refusal.specs.Refusal.{unknownEdition, outside, unwritable as unwritableRow, wrongLineOrOutput}
 use Rattle.card_table.specs.declared.facts.Facts.{Facts}
-use Rattle.card_writer.specs.declared.Writing.{Writing}
-use Rattle.card_writer.specs.declared.Writing.the-variants.{Done, Refused}
+use Rattle.refusal.specs.declared.Written.{Written}
+use Rattle.refusal.specs.declared.Written.the-variants.{Done, Refused}
 use Rattle.card_table.specs.Edition.{editionKnown, hasAccess, leastEdition}
 use Rattle.card_table.specs.Facts.{closed, factsValid}
 use Rattle.card_table.specs.Table.{cardSize, cardBytes}
@@ -21,7 +21,7 @@ unfoldable pub validAt : ℕ → Facts → Bool
 validAt e f = editionKnown e && factsValid f && not (unwritable e f)
 
 -- writing into so many bytes: 7, 9, 11, 13
-unfoldable pub writeAnswer : ℕ → Facts → ℕ → Writing
+unfoldable pub writeAnswer : ℕ → Facts → ℕ → Written
 writeAnswer e f bytes =
     cond (not (editionKnown e)) (Refused unknownEdition)
     (cond (not (factsValid f)) (Refused outside)
@@ -30,7 +30,7 @@ writeAnswer e f bytes =
     Done)))
 
 -- an output afterwards: what is written, or what was there before where it is refused
-abbrev pub kept : Writing → List ℕ → List ℕ → List ℕ
+abbrev pub kept : Written → List ℕ → List ℕ → List ℕ
 kept Done before after = after
 kept (Refused k) before after = before
 

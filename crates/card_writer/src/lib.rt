@@ -7,13 +7,7 @@ use card_table::Card;
 use card_table::Facts;
 use card_table::access;
 use card_table::edition;
-use layout::refusal;
-
-// That a card was written, or the refusal's number.
-pub enum Writing {
-    Done,
-    Refused(u8),
-}
+use refusal::Written;
 
 // Whether an edition has no place for the layout or the access.
 fn lacks(edition: u8, facts: Facts) -> bool
@@ -39,23 +33,23 @@ fn put(card: Card, out: &mut [u8])
 }
 
 // Writes the card of the facts at an edition. Refused: 7, 9, 11, 13; `out` is then as it was.
-pub fn write(edition: u8, facts: Facts, out: &mut [u8]) -> Writing
+pub fn write(edition: u8, facts: Facts, out: &mut [u8]) -> Written
     ensures answer { λ r. ⌜ r ≡ writeAnswer edition facts (length (now (out .entry))) ⌝ }
     ensures memory { λ r. ⌜ now (out .exit) ≡ writeOutput edition facts (now (out .entry)) ⌝ }
 {
     if !edition::known(edition) {
-        return Writing::Refused(refusal::UNKNOWN_EDITION);
+        return Written::Refused(refusal::UNKNOWN_EDITION);
     }
     if !facts.valid() {
-        return Writing::Refused(refusal::OUTSIDE);
+        return Written::Refused(refusal::OUTSIDE);
     }
     if lacks(edition, facts) {
-        return Writing::Refused(refusal::UNWRITABLE);
+        return Written::Refused(refusal::UNWRITABLE);
     }
     if out.len() != Card::SIZE {
-        return Writing::Refused(refusal::WRONG_LINE_OR_OUTPUT);
+        return Written::Refused(refusal::WRONG_LINE_OR_OUTPUT);
     }
     let card = Card::of(edition, facts);
     put(card, out);
-    Writing::Done
+    Written::Done
 }

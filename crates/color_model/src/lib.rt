@@ -4,7 +4,6 @@ ghost use lib.ListN.{length};
 ghost use Rattle.color_model.specs.Line.{convertible, conversionAnswer, toYcbcrOutput, toRgbOutput};
 use layout::Depth;
 use layout::Range;
-use layout::refusal;
 use line::LineAnswer;
 
 mod convert;

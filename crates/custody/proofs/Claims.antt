@@ -9,8 +9,8 @@ use lib.Dec.{eqb}
 use lib.ListN.{length, replicate, length-append}
 use lib.Seq.{take-append-seam, drop-append-seam}
 use Rattle.card_table.specs.Table.{cardSize}
-use Rattle.card_writer.specs.declared.Writing.{Writing}
-use Rattle.card_writer.specs.declared.Writing.the-variants.{Done, Refused}
+use Rattle.refusal.specs.declared.Written.{Written}
+use Rattle.refusal.specs.declared.Written.the-variants.{Done, Refused}
 use Rattle.card_writer.specs.Writing.{writeAnswer}
 use Rattle.card_laws.proofs.Claims.{writes-no-other}
 use Rattle.custody_book.specs.History.{Rewrite}
@@ -46,7 +46,7 @@ fits-any-list rs =
     && eq-eqb (sum (lengthsIn rs)) (length (outputsIn rs)) (all-bytes rs) i
 
 -- a replay that begins has written the first card
-begun : (w : Writing) (fits : Bool) → thenFitting w fits ≡ Done → w ≡ Done
+begun : (w : Written) (fits : Bool) → thenFitting w fits ≡ Done → w ≡ Done
 begun (Refused k) fits h = h
 begun Done fits h = refl
 

@@ -8,13 +8,13 @@ use Rattle.line.specs.declared.LineAnswer.{LineAnswer}
 use Rattle.line.specs.declared.LineAnswer.the-variants.{Refused as LineRefused}
 use Rattle.decoding.specs.Decode.{decodeAnswer, decodeOutput}
 use Rattle.card_table.specs.declared.facts.Facts.{Facts}
-use Rattle.card_reader.specs.declared.Reading.{Reading}
-use Rattle.card_reader.specs.declared.Reading.the-variants.{Shown, Refused as NotShown}
+use Rattle.card_reader.specs.declared.CardReading.{CardReading}
+use Rattle.card_reader.specs.declared.CardReading.the-variants.{Shown, Refused as NotShown}
 use Rattle.custody_book.specs.Calls.{thenDecode, thenValues}
 use Rattle.custody.specs.declared.Replayed.{Replayed}
 use Rattle.custody.specs.declared.Replayed.the-variants.{Ended}
 
-module _ (r : Reading) (packed : List ℕ) (values : List Float) where
+module _ (r : CardReading) (packed : List ℕ) (values : List Float) where
   abbrev Ends : Replayed → List Float → Type 0
   Ends answer after = (answer ≡ Ended r (thenDecode r (length packed) (length values))) × (after ≡ thenValues r packed values)
 

@@ -8,8 +8,8 @@ use lib.ListN.{length}
 use Rattle.lists.proofs.Tests.{pass, stop}
 use Rattle.card_table.specs.Table.{cardSize}
 use Rattle.card_reader.specs.Reading.{readCard}
-use Rattle.card_writer.specs.declared.Writing.{Writing}
-use Rattle.card_writer.specs.declared.Writing.the-variants.{Done, Refused}
+use Rattle.refusal.specs.declared.Written.{Written}
+use Rattle.refusal.specs.declared.Written.the-variants.{Done, Refused}
 use Rattle.card_writer.specs.Writing.{writeAnswer, writeOutput}
 use Rattle.card.specs.Rewriting.{rewriteAnswer, rewriteOutput}
 use Rattle.card_laws.proofs.Claims.{writes-no-other}
@@ -86,7 +86,7 @@ module _ (g : Given) where
 
   pub not-written : (k : ℕ) → writeAnswer (g .first) (g .facts) cardSize ≡ Refused k → Replays (NotBegun k) (g .card) (g .outputs) (g .answers) (g .values)
   unfolding beginning
-  not-written k h = not-begun k (ap (λ (w : Writing). thenFitting w fits) h)
+  not-written k h = not-begun k (ap (λ (w : Written). thenFitting w fits) h)
 
   module _ (w : writeAnswer (g .first) (g .facts) cardSize ≡ Done) (start : List ℕ) {card outputs answers : List ℕ} {r : Bool} (e : Rewritten start r card outputs answers) where
     pub misfit : r ≡ false → Replays (NotBegun 13) card outputs answers (g .values)

@@ -5,7 +5,7 @@ use mathlib.Core.Path.{_≡_}
 use mathlib.Core.List.{List, [], _∷_, _++_}
 use lib.ListN.{length}
 use Rattle.card_table.specs.Table.{cardSize}
-use Rattle.card_writer.specs.declared.Writing.the-variants.{Done}
+use Rattle.refusal.specs.declared.Written.the-variants.{Done}
 use Rattle.custody_book.specs.History.{Rewrite}
 use Rattle.custody_book.specs.Meaning.{Meaning}
 use Rattle.custody_rewrites.specs.Lists.{rewritesOf, fitting}

@@ -4,11 +4,11 @@ use mathlib.Core.Bool.{Bool, not, cond}
 use mathlib.Core.List.{List}
 use lib.Ieee.{Float}
 use lib.ListN.{length}
-use Rattle.layout.specs.Refusal.{wrongLineOrOutput}
+use Rattle.refusal.specs.Refusal.{wrongLineOrOutput}
 use Rattle.card_table.specs.declared.facts.Facts.{Facts}
 use Rattle.card_table.specs.Table.{cardSize}
-use Rattle.card_writer.specs.declared.Writing.{Writing}
-use Rattle.card_writer.specs.declared.Writing.the-variants.{Done, Refused}
+use Rattle.refusal.specs.declared.Written.{Written}
+use Rattle.refusal.specs.declared.Written.the-variants.{Done, Refused}
 use Rattle.card_writer.specs.Writing.{writeAnswer}
 use Rattle.custody_book.specs.History.{Asked, Story, History}
 use Rattle.custody_book.specs.Book.{book}
@@ -46,11 +46,11 @@ askedBy g =
 -- ---- whether it begins
 
 -- as the first writing answers, 7, 9 or 11; then 13 where the lists do not fit together
-abbrev pub thenFitting : Writing → Bool → Writing
+abbrev pub thenFitting : Written → Bool → Written
 thenFitting (Refused k) fits = Refused k
 thenFitting Done fits = cond (not fits) (Refused wrongLineOrOutput) Done
 
-unfoldable pub beginning : Given → Writing
+unfoldable pub beginning : Given → Written
 beginning g =
     thenFitting (writeAnswer (g .first) (g .facts) cardSize)
     (fitting (length (g .card)) (g .editions) (g .lengths) (length (g .outputs)) (length (g .answers)))
@@ -58,7 +58,7 @@ beginning g =
 -- ---- what it answers and leaves
 
 -- where it does not begin, all is as it was
-abbrev pub unless : {A : Type 0} → Writing → A → A → A
+abbrev pub unless : {A : Type 0} → Written → A → A → A
 unless (Refused k) before after = before
 unless Done before after = after
 
@@ -66,7 +66,7 @@ abbrev pub history : Given → History
 history g = book (askedBy g)
 
 -- the last reading and the decoding by it, or the number by which it does not begin
-abbrev pub answerAfter : Writing → Story → Replayed
+abbrev pub answerAfter : Written → Story → Replayed
 answerAfter (Refused k) s = NotBegun k
 answerAfter Done s = Ended (readingOf s) (decodingOf s)
 

@@ -6,18 +6,17 @@ ghost use Rattle.card_reader.specs.Reading.{readCard};
 ghost use Rattle.custody_book.specs.Calls.{thenDecode, thenValues};
 ghost use Rattle.custody.specs.Replay.{Given, replayAnswer, replayCard, replayOutputs, replayAnswers, replayValues};
 use card::Card;
+use card::CardReading;
 use card::Facts;
-use card::Reading;
-use card::Writing;
 use custody_rewrites::rewrite_all;
-use layout::refusal;
 use line::LineAnswer;
+use refusal::Written;
 
 // What a replay answers.
 pub enum Replayed {
     // The last reading, and what decoding by its layout answered: the reading's own number where that was refused.
     Ended {
-        reading: Reading,
+        reading: CardReading,
         decoding: LineAnswer,
     },
     // Nothing was done: the refusal's number.
@@ -30,14 +29,14 @@ fn read_last(card: &[u8], last: u8, packed: &[u8], values: &mut [f32]) -> Replay
         × (now (values .exit) ≡ thenValues (readCard (now (card .entry)) last) (now (packed .entry)) (now (values .entry))) ⌝ }
 {
     match card::read(card, last) {
-        Reading::Refused(number) => Replayed::Ended {
-            reading: Reading::Refused(number),
+        CardReading::Refused(number) => Replayed::Ended {
+            reading: CardReading::Refused(number),
             decoding: LineAnswer::Refused(number),
         },
-        Reading::Shown(facts) => {
+        CardReading::Shown(facts) => {
             let answer = decoding::decode_line(facts.layout, packed, values);
             Replayed::Ended {
-                reading: Reading::Shown(facts),
+                reading: CardReading::Shown(facts),
                 decoding: answer,
             }
         }
@@ -80,8 +79,8 @@ pub fn replay(
 {
     let mut start = [0u8; Card::SIZE];
     match card::write(first, facts, &mut start) {
-        Writing::Refused(number) => Replayed::NotBegun(number),
-        Writing::Done => {
+        Written::Refused(number) => Replayed::NotBegun(number),
+        Written::Done => {
             if !rewrite_all(&start, card, editions, lengths, outputs, answers) {
                 return Replayed::NotBegun(refusal::WRONG_LINE_OR_OUTPUT);
             }

@@ -18,11 +18,11 @@ use Rattle.card_table.specs.declared.facts.Facts.{Facts}
 use Rattle.card_table.specs.Edition.{editionKnown, hasAccess, leastEdition}
 use Rattle.card_table.specs.Facts.{closed, sideKnown, accessKnown, factsValid, withAccess}
 use Rattle.card_table.specs.Table.{cardSize, cardBytes}
-use Rattle.card_reader.specs.declared.Reading.{Reading}
-use Rattle.card_reader.specs.declared.Reading.the-variants.{Shown, Refused as NotShown}
+use Rattle.card_reader.specs.declared.CardReading.{CardReading}
+use Rattle.card_reader.specs.declared.CardReading.the-variants.{Shown, Refused as NotShown}
 use Rattle.card_reader.specs.Reading.{readCard}
-use Rattle.card_writer.specs.declared.Writing.{Writing}
-use Rattle.card_writer.specs.declared.Writing.the-variants.{Done, Refused}
+use Rattle.refusal.specs.declared.Written.{Written}
+use Rattle.refusal.specs.declared.Written.the-variants.{Done, Refused}
 use Rattle.card_writer.specs.Writing.{unwritable, validAt, writeAnswer, writeOutput}
 use Rattle.card_writer.proofs.Answers.{unchanged, changed}
 use Rattle.card.specs.Rewriting.{rewriteAnswer, rewriteOutput}
@@ -66,7 +66,7 @@ module _ (g : Facts) (v : factsValid g ≡ true) (packed : List ℕ) (values : L
 
 -- ---- one rewrite
 
-next : {answer : Writing} {output card : List ℕ} {s s′ : Story} → s ≡ s′ → rewritten answer output card s ≡ rewritten answer output card s′
+next : {answer : Written} {output card : List ℕ} {s s′ : Story} → s ≡ s′ → rewritten answer output card s ≡ rewritten answer output card s′
 next {answer} {output} {card} h = ap (rewritten answer output card) h
 
 module _ (e : ℕ) (f : Facts) (a : ℕ) (v : validAt e (withAccess f a) ≡ true) where
@@ -95,7 +95,7 @@ module _ (e : ℕ) (f : Facts) (a : ℕ) (v : validAt e (withAccess f a) ≡ tru
 
   -- a rewrite: its answer and its output
   module _ (r : Rewrite) where
-    abbrev Wrote : Writing → List ℕ → Type 0
+    abbrev Wrote : Written → List ℕ → Type 0
     Wrote answer output = (rewriteAnswer card (r .edition) (length (r .output)) ≡ answer) × (rewriteOutput card (r .edition) (r .output) ≡ output)
 
     declined : (n : ℕ) → readCard card (r .edition) ≡ NotShown n → Wrote (Refused n) (r .output)
@@ -108,7 +108,7 @@ module _ (e : ℕ) (f : Facts) (a : ℕ) (v : validAt e (withAccess f a) ≡ tru
       writing-is : writeAnswer (r .edition) facts (length (r .output)) ≡ cond (not (eqb (length (r .output)) cardSize)) (Refused 13) Done
       writing-is = writes-valid-facts (r .edition) facts (length (r .output)) (seen-valid (r .edition) k l)
 
-      wrote : (answer : Writing) (output : List ℕ) → answer ≡ writeAnswer (r .edition) facts (length (r .output)) → output ≡ writeOutput (r .edition) facts (r .output)
+      wrote : (answer : Written) (output : List ℕ) → answer ≡ writeAnswer (r .edition) facts (length (r .output)) → output ≡ writeOutput (r .edition) facts (r .output)
           → Wrote answer output
       wrote answer output h m =
           let d = written card (r .edition) (r .output) facts answer output (shown (r .edition) k l) h m in
@@ -152,7 +152,7 @@ pub valid-facts : (e : ℕ) (f : Facts) → validAt e f ≡ true → factsValid 
 unfolding validAt
 valid-facts e f v = and3 (editionKnown e) (factsValid f) (not (unwritable e f)) v .1
 
-end-is : (r : Reading) (packed : List ℕ) (values : List Float) → ((g : Facts) → r ≡ Shown g → factsValid g ≡ true) → callsEnd r packed values ≡ bookEnd r packed values
+end-is : (r : CardReading) (packed : List ℕ) (values : List Float) → ((g : Facts) → r ≡ Shown g → factsValid g ≡ true) → callsEnd r packed values ≡ bookEnd r packed values
 end-is (NotShown k) packed values v = refl
 end-is (Shown g) packed values v = λ i. ended (Shown g) (decoding-is g (v g refl) packed values i) (values-is g (v g refl) packed values i)
 
@@ -160,7 +160,7 @@ from : (e : ℕ) (f : Facts) (a : ℕ) → validAt e (withAccess f a) ≡ true �
     → callsFrom (cardBytes e (withAccess f a)) rs last packed values ≡ bookFrom f (bookAt e f a) rs last packed values
 from e f a v [] last packed values =
     end-is (readCard (cardBytes e (withAccess f a)) last) packed values (λ g h. valid-facts last g (shows-valid-facts (cardBytes e (withAccess f a)) last g h))
-    ∙ ap (λ (r : Reading). bookEnd r packed values) (reading-is e f a v last)
+    ∙ ap (λ (r : CardReading). bookEnd r packed values) (reading-is e f a v last)
 from e f a v (r ∷ rs) last packed values =
     step e f a v r rs last packed values (from e f a v rs last packed values)
     (λ w. from (r .edition) f (accessAt (r .edition) a) w rs last packed values)

@@ -10,10 +10,10 @@ use Rattle.card_table.specs.declared.facts.Facts.{Facts}
 use Rattle.card_table.specs.Edition.{leastEdition}
 use Rattle.card_table.specs.Facts.{factsValid, withAccess}
 use Rattle.card_table.specs.Table.{cardBytes}
-use Rattle.card_reader.specs.declared.Reading.the-variants.{Shown, Refused as NotShown}
+use Rattle.card_reader.specs.declared.CardReading.the-variants.{Shown, Refused as NotShown}
 use Rattle.card_reader.specs.Reading.{accessOf, layoutIn, factsIn, frontRight, accessUnknown, endWrong, readCard}
-use Rattle.card_writer.specs.declared.Writing.{Writing}
-use Rattle.card_writer.specs.declared.Writing.the-variants.{Done, Refused}
+use Rattle.refusal.specs.declared.Written.{Written}
+use Rattle.refusal.specs.declared.Written.the-variants.{Done, Refused}
 use Rattle.card_writer.specs.Writing.{unwritable, writeAnswer, writeOutput}
 use Rattle.card.specs.Rewriting.{rewriteAnswer, rewriteOutput}
 use Rattle.custody_book.specs.History.{Rewrite, Asked, Story, Story.ended, Story.rewritten}
@@ -50,7 +50,7 @@ into e bytes = record { edition = e; output = replicate bytes 9 }
 abbrev asking : Facts → List Rewrite → ℕ → Asked
 asking f rs last = record { first = 2; facts = f; rewrites = rs; last = last; packed = replicate 8 0; values = [] }
 
-abbrev answers : Story → List Writing
+abbrev answers : Story → List Written
 answers (ended reading decoding values) = []
 answers (rewritten answer output card s) = answer ∷ answers s
 

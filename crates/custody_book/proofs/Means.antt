@@ -21,11 +21,11 @@ use Rattle.card_table.specs.declared.facts.Facts.{Facts}
 use Rattle.card_table.specs.Edition.{editionKnown, leastEdition}
 use Rattle.card_table.specs.Facts.{closed, withAccess}
 use Rattle.card_table.specs.Table.{cardSize}
-use Rattle.card_reader.specs.declared.Reading.{Reading}
-use Rattle.card_reader.specs.declared.Reading.the-variants.{Shown, Refused as NotShown}
+use Rattle.card_reader.specs.declared.CardReading.{CardReading}
+use Rattle.card_reader.specs.declared.CardReading.the-variants.{Shown, Refused as NotShown}
 use Rattle.card_reader.proofs.Shown.{passed, same-facts}
-use Rattle.card_writer.specs.declared.Writing.{Writing}
-use Rattle.card_writer.specs.declared.Writing.the-variants.{Done, Refused}
+use Rattle.refusal.specs.declared.Written.{Written}
+use Rattle.refusal.specs.declared.Written.the-variants.{Done, Refused}
 use Rattle.card_writer.specs.Writing.{kept}
 use Rattle.card_laws.proofs.Printed.{row-7}
 use Rattle.custody_book.specs.History.{Rewrite, Asked, Story}
@@ -92,7 +92,7 @@ module _ (f : Facts) (b : Book) (r : Rewrite) where
   refused-is : refused (bookAnswer f r) ≡ not (known && not under && long)
   refused-is = refused-by (editionKnown (r .edition)) under long ∙ ap (λ (k : Bool). not (k && not under && long)) (row-7 (r .edition))
 
-  rewrite-right : (w : Writing) → bookAnswer f r ≡ w
+  rewrite-right : (w : Written) → bookAnswer f r ≡ w
       → RewriteRight (f .layout) r (b .card) w (kept w (r .output) (bookAfter w f b (r .edition) .card)) (bookAfter w f b (r .edition) .card)
   rewrite-right w h =
       record {
@@ -102,11 +102,11 @@ module _ (f : Facts) (b : Book) (r : Rewrite) where
         taken = taken w;
       }
     where
-      unchanged : (w : Writing) → refused w ≡ true → (kept w (r .output) (bookAfter w f b (r .edition) .card) ≡ r .output) × (bookAfter w f b (r .edition) .card ≡ b .card)
+      unchanged : (w : Written) → refused w ≡ true → (kept w (r .output) (bookAfter w f b (r .edition) .card) ≡ r .output) × (bookAfter w f b (r .edition) .card ≡ b .card)
       unchanged Done p = apart (sym p)
       unchanged (Refused n) p = (refl, refl)
 
-      taken : (w : Writing) → refused w ≡ false → bookAfter w f b (r .edition) .card ≡ kept w (r .output) (bookAfter w f b (r .edition) .card)
+      taken : (w : Written) → refused w ≡ false → bookAfter w f b (r .edition) .card ≡ kept w (r .output) (bookAfter w f b (r .edition) .card)
       taken Done p = refl
       taken (Refused n) p = apart p
 
@@ -122,7 +122,7 @@ done-known f r false p h = let d : Refused 7 ≡ Done = (rw p at h) in let z : _
 -- ---- the last reading
 
 -- what it shows of the first facts, where `ok` says whether every accepted rewrite was at 2
-abbrev lastShown : Facts → ℕ → Bool → ℕ → Reading
+abbrev lastShown : Facts → ℕ → Bool → ℕ → CardReading
 lastShown f access ok last =
     cond (not (editionKnown last)) (NotShown 7)
     (cond (ltb last (leastEdition (f .layout))) (NotShown 8)
@@ -153,7 +153,7 @@ reading-from f b (r ∷ rs) last packed values = go (bookAnswer f r) (done-known
     accepted e one ih = ih (bookAfter Done f b 1) ∙ shut f (b .access) (allAtTwo rs (bookFrom f (bookAfter Done f b 1) rs last packed values)) last
     accepted e two ih = ih (bookAfter Done f b 2)
 
-    go : (w : Writing) → (w ≡ Done → editionKnown (r .edition) ≡ true)
+    go : (w : Written) → (w ≡ Done → editionKnown (r .edition) ≡ true)
         → ((b′ : Book) → readingOf (bookFrom f b′ rs last packed values) ≡ lastShown f (b′ .access) (allAtTwo rs (bookFrom f b′ rs last packed values)) last)
         → readingOf (bookFrom f (bookAfter w f b (r .edition)) rs last packed values)
         ≡ lastShown f (b .access) (atTwo w (r .edition) && allAtTwo rs (bookFrom f (bookAfter w f b (r .edition)) rs last packed values)) last
@@ -214,8 +214,8 @@ module _ (a : Asked) where
 
   shown-is : (g : Facts) → readingOf s ≡ Shown g → seen ≡ g
   shown-is g h =
-      let r₃ : Reading = Shown seen in
-      let r₂ : Reading = cond least (NotShown 8) r₃ in
+      let r₃ : CardReading = Shown seen in
+      let r₂ : CardReading = cond least (NotShown 8) r₃ in
       let h₂ = passed (not (editionKnown (a .last))) 7 r₂ g (sym reading-is ∙ h) in
       let h₃ = passed least 8 r₃ g (h₂ .1) in
       same-facts seen g (h₃ .1)
@@ -239,10 +239,10 @@ module _ (a : Asked) where
   decoded-by g h t d =
       let r = h ∙ ap Shown (sym (shown-is g h)) in (
         decoding-from f (a .last) (a .packed) (a .values) (startOf (a .first) f) (a .rewrites)
-            ∙ ap (λ (x : Reading). bookDecoding x (a .packed) (a .values)) r
+            ∙ ap (λ (x : CardReading). bookDecoding x (a .packed) (a .values)) r
             ∙ ap (λ (t : Bool). cond (not t) (LineRefused 13) (Points (pointsIn (f .layout) (a .packed)))) d,
         values-from f (a .last) (a .packed) (a .values) (startOf (a .first) f) (a .rewrites)
-            ∙ ap (λ (x : Reading). bookValues x (a .packed) (a .values)) r
+            ∙ ap (λ (x : CardReading). bookValues x (a .packed) (a .values)) r
             ∙ ap (λ (t : Bool). cond (not t) (a .values) (valuesOf (f .layout) (a .packed))) d,
       )
 

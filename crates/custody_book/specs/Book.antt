@@ -6,7 +6,7 @@ use lib.Dec.{eqb, ltb}
 use lib.Ieee.{Float}
 use lib.ListN.{length}
 use Rattle.layout.specs.declared.Layout.{Layout}
-use Rattle.layout.specs.Refusal.{unknownEdition, laterEdition, wrongLineOrOutput}
+use Rattle.refusal.specs.Refusal.{unknownEdition, laterEdition, wrongLineOrOutput}
 use Rattle.line.specs.declared.LineAnswer.{LineAnswer}
 use Rattle.line.specs.declared.LineAnswer.the-variants.{Points, Refused as LineRefused}
 use Rattle.line.specs.Answer.{wholePoints}
@@ -15,10 +15,10 @@ use Rattle.card_table.specs.declared.facts.Facts.{Facts}
 use Rattle.card_table.specs.Edition.{editionKnown, leastEdition}
 use Rattle.card_table.specs.Facts.{closed, withAccess}
 use Rattle.card_table.specs.Table.{cardSize, cardBytes}
-use Rattle.card_reader.specs.declared.Reading.{Reading}
-use Rattle.card_reader.specs.declared.Reading.the-variants.{Shown, Refused as NotShown}
-use Rattle.card_writer.specs.declared.Writing.{Writing}
-use Rattle.card_writer.specs.declared.Writing.the-variants.{Done, Refused}
+use Rattle.card_reader.specs.declared.CardReading.{CardReading}
+use Rattle.card_reader.specs.declared.CardReading.the-variants.{Shown, Refused as NotShown}
+use Rattle.refusal.specs.declared.Written.{Written}
+use Rattle.refusal.specs.declared.Written.the-variants.{Done, Refused}
 use Rattle.card_writer.specs.Writing.{kept}
 use Rattle.custody_book.specs.History.{Rewrite, Asked, Story, Story.ended, Story.rewritten, History}
 
@@ -34,7 +34,7 @@ startOf e f = record { card = cardBytes e f; access = f .access }
 -- ---- a rewrite
 
 -- it answers 7 where there is no such edition; else 8 where the edition is under the least that reads the first layout; else 13 where the output is not as long as a card; else it is accepted
-abbrev pub bookAnswer : Facts → Rewrite → Writing
+abbrev pub bookAnswer : Facts → Rewrite → Written
 bookAnswer f r =
     cond (not (editionKnown (r .edition))) (Refused unknownEdition)
     (cond (ltb (r .edition) (leastEdition (f .layout))) (Refused laterEdition)
@@ -50,14 +50,14 @@ abbrev pub bookAt : ℕ → Facts → ℕ → Book
 bookAt e f access = record { card = cardBytes e (withAccess f access); access = access }
 
 -- a refused one leaves the book as it was
-abbrev pub bookAfter : Writing → Facts → Book → ℕ → Book
+abbrev pub bookAfter : Written → Facts → Book → ℕ → Book
 bookAfter (Refused k) f b e = b
 bookAfter Done f b e = bookAt e f (accessAt e (b .access))
 
 -- ---- the last reading
 
 -- 7 and 8 as for a rewrite; else the first layout, size and item, with the book's access at 2, and closed at 1
-abbrev pub bookReading : Facts → Book → ℕ → Reading
+abbrev pub bookReading : Facts → Book → ℕ → CardReading
 bookReading f b e =
     cond (not (editionKnown e)) (NotShown unknownEdition)
     (cond (ltb e (leastEdition (f .layout))) (NotShown laterEdition)
@@ -78,18 +78,18 @@ abbrev pub decodable : Layout → List ℕ → List Float → Bool
 decodable l packed values = captured l packed && eqb (length values) (3 * pointsIn l packed)
 
 -- decoded by the layout of an accepted reading: 13, also of a line that is not captured, or the count of points. (The paper decodes nothing after a refused reading; that its number then stands here too is our own choice)
-abbrev pub bookDecoding : Reading → List ℕ → List Float → LineAnswer
+abbrev pub bookDecoding : CardReading → List ℕ → List Float → LineAnswer
 bookDecoding (NotShown k) packed values = LineRefused k
 bookDecoding (Shown g) packed values = cond (not (decodable (g .layout) packed values)) (LineRefused wrongLineOrOutput) (Points (pointsIn (g .layout) packed))
 
 -- the floats afterwards: what was there, or the float of each code
-abbrev pub bookValues : Reading → List ℕ → List Float → List Float
+abbrev pub bookValues : CardReading → List ℕ → List Float → List Float
 bookValues (NotShown k) packed values = values
 bookValues (Shown g) packed values = cond (not (decodable (g .layout) packed values)) values (valuesOf (g .layout) packed)
 
 -- ---- the whole
 
-abbrev pub bookEnd : Reading → List ℕ → List Float → Story
+abbrev pub bookEnd : CardReading → List ℕ → List Float → Story
 bookEnd r packed values = ended r (bookDecoding r packed values) (bookValues r packed values)
 
 abbrev pub bookFrom : Facts → Book → List Rewrite → ℕ → List ℕ → List Float → Story

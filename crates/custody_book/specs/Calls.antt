@@ -6,24 +6,24 @@ use lib.ListN.{length}
 use Rattle.line.specs.declared.LineAnswer.{LineAnswer}
 use Rattle.line.specs.declared.LineAnswer.the-variants.{Refused as LineRefused}
 use Rattle.decoding.specs.Decode.{decodeAnswer, decodeOutput}
-use Rattle.card_reader.specs.declared.Reading.{Reading}
-use Rattle.card_reader.specs.declared.Reading.the-variants.{Shown, Refused as NotShown}
+use Rattle.card_reader.specs.declared.CardReading.{CardReading}
+use Rattle.card_reader.specs.declared.CardReading.the-variants.{Shown, Refused as NotShown}
 use Rattle.card_reader.specs.Reading.{readCard}
 use Rattle.card_writer.specs.Writing.{kept, writeAnswer, writeOutput}
 use Rattle.card.specs.Rewriting.{rewriteAnswer, rewriteOutput}
 use Rattle.custody_book.specs.History.{Rewrite, Asked, Story, Story.ended, Story.rewritten, History}
 
 -- decoding by the layout that a reading shows; after a refused one nothing is decoded, and its number stands (our own choice)
-abbrev pub thenDecode : Reading → ℕ → ℕ → LineAnswer
+abbrev pub thenDecode : CardReading → ℕ → ℕ → LineAnswer
 thenDecode (NotShown k) bytes floats = LineRefused k
 thenDecode (Shown g) bytes floats = decodeAnswer (g .layout) bytes floats
 
-abbrev pub thenValues : Reading → List ℕ → List Float → List Float
+abbrev pub thenValues : CardReading → List ℕ → List Float → List Float
 thenValues (NotShown k) packed values = values
 thenValues (Shown g) packed values = decodeOutput (g .layout) packed values
 
 -- the last reading of a card, and the decoding by it
-abbrev pub callsEnd : Reading → List ℕ → List Float → Story
+abbrev pub callsEnd : CardReading → List ℕ → List Float → Story
 callsEnd r packed values = ended r (thenDecode r (length packed) (length values)) (thenValues r packed values)
 
 -- the card after a rewrite: what it wrote, or the one before

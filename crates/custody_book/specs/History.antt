@@ -4,8 +4,8 @@ use mathlib.Core.List.{List}
 use lib.Ieee.{Float}
 use Rattle.line.specs.declared.LineAnswer.{LineAnswer}
 use Rattle.card_table.specs.declared.facts.Facts.{Facts}
-use Rattle.card_reader.specs.declared.Reading.{Reading}
-use Rattle.card_writer.specs.declared.Writing.{Writing}
+use Rattle.card_reader.specs.declared.CardReading.{CardReading}
+use Rattle.refusal.specs.declared.Written.{Written}
 
 -- a rewrite, as it is asked for: its edition, and its output as it lies before
 pub record Rewrite : Type 0 where
@@ -23,11 +23,11 @@ pub record Asked : Type 0 where
 
 -- what is to be seen from the first card on: of each rewrite its answer, and the output and the card after it; at the end the last reading, the decoding's answer, and the line of floats after it
 pub data Story : Type 0 where
-  ended : (reading : Reading) (decoding : LineAnswer) (values : List Float) → Story
-  rewritten : (answer : Writing) (output card : List ℕ) → Story → Story
+  ended : (reading : CardReading) (decoding : LineAnswer) (values : List Float) → Story
+  rewritten : (answer : Written) (output card : List ℕ) → Story → Story
 
 -- and all in all: the first writing's answer, the card that it left, and what came after
 pub record History : Type 0 where
-  pub answer : Writing
+  pub answer : Written
   pub card : List ℕ
   pub story : Story

@@ -9,7 +9,7 @@ use lib.ListN.{length, getD}
 use Rattle.lists.specs.Bytes.{areBytes}
 use Rattle.layout.specs.declared.Layout.{Layout}
 use Rattle.layout.specs.Layout.{kindOf}
-use Rattle.layout.specs.Refusal.{wrongLineOrOutput}
+use Rattle.refusal.specs.Refusal.{wrongLineOrOutput}
 use Rattle.quantization.specs.Answer.{named, dequantized}
 use Rattle.line.specs.declared.LineAnswer.{LineAnswer}
 use Rattle.line.specs.declared.LineAnswer.the-variants.{Points, Refused as LineRefused}
@@ -18,16 +18,16 @@ use Rattle.decoding.specs.Decode.{valuesOf}
 use Rattle.card_table.specs.declared.facts.Facts.{Facts}
 use Rattle.card_table.specs.Facts.{closed}
 use Rattle.card_table.specs.Table.{cardSize, cardBytes}
-use Rattle.card_reader.specs.declared.Reading.{Reading}
-use Rattle.card_reader.specs.declared.Reading.the-variants.{Shown, Refused as NotShown}
-use Rattle.card_writer.specs.declared.Writing.{Writing}
-use Rattle.card_writer.specs.declared.Writing.the-variants.{Done, Refused}
+use Rattle.card_reader.specs.declared.CardReading.{CardReading}
+use Rattle.card_reader.specs.declared.CardReading.the-variants.{Shown, Refused as NotShown}
+use Rattle.refusal.specs.declared.Written.{Written}
+use Rattle.refusal.specs.declared.Written.the-variants.{Done, Refused}
 use Rattle.custody_book.specs.History.{Rewrite, Asked, Story, Story.ended, Story.rewritten, History}
 use Rattle.custody_book.specs.Book.{captured, pointsIn}
 
 -- ---- what a story ends with
 
-abbrev pub readingOf : Story → Reading
+abbrev pub readingOf : Story → CardReading
 readingOf (ended reading decoding values) = reading
 readingOf (rewritten answer output card s) = readingOf s
 
@@ -41,11 +41,11 @@ valuesAfter (rewritten answer output card s) = valuesAfter s
 
 -- ---- refusals
 
-abbrev pub refused : Writing → Bool
+abbrev pub refused : Written → Bool
 refused Done = false
 refused (Refused k) = true
 
-abbrev pub notShown : Reading → Bool
+abbrev pub notShown : CardReading → Bool
 notShown (Shown f) = false
 notShown (NotShown k) = true
 
@@ -59,7 +59,7 @@ oneAboutTwelve e l = eqb e 1 && eqb (l .depth) 12
 -- ---- a rewrite
 
 -- a rewrite of the card `before`, where the first layout is l: its answer, and the output and the card after it
-pub record RewriteRight (l : Layout) (r : Rewrite) (before : List ℕ) (answer : Writing) (output card : List ℕ) : Type 0 where
+pub record RewriteRight (l : Layout) (r : Rewrite) (before : List ℕ) (answer : Written) (output card : List ℕ) : Type 0 where
   -- at edition 1 or 2, into an output as long as a card, it is refused exactly if edition 1 is asked about 12-bit pictures
   pub exactly : oneOrTwo (r .edition) ≡ true → length (r .output) ≡ cardSize → refused answer ≡ oneAboutTwelve (r .edition) l
   -- at any other edition, or into any other output, it is refused
@@ -71,14 +71,14 @@ pub record RewriteRight (l : Layout) (r : Rewrite) (before : List ℕ) (answer :
 
 -- every rewrite that was asked for, one after the other
 pub data EachRight (l : Layout) : (before : List ℕ) (rewrites : List Rewrite) → Story → Type 0 where
-  none : {before : List ℕ} {reading : Reading} {decoding : LineAnswer} {values : List Float} → EachRight l before [] (ended reading decoding values)
-  each : {before : List ℕ} {r : Rewrite} {rs : List Rewrite} {answer : Writing} {output card : List ℕ} {s : Story}
+  none : {before : List ℕ} {reading : CardReading} {decoding : LineAnswer} {values : List Float} → EachRight l before [] (ended reading decoding values)
+  each : {before : List ℕ} {r : Rewrite} {rs : List Rewrite} {answer : Written} {output card : List ℕ} {s : Story}
       → RewriteRight l r before answer output card → EachRight l card rs s → EachRight l before (r ∷ rs) (rewritten answer output card s)
 
 -- ---- the last reading
 
 -- an accepted rewrite counts by its edition, a refused one does not count
-abbrev pub atTwo : Writing → ℕ → Bool
+abbrev pub atTwo : Written → ℕ → Bool
 atTwo Done e = eqb e 2
 atTwo (Refused k) e = true
 

@@ -8,10 +8,10 @@ use borrow.Author.Tests.{eqb-true}
 use lib.Dec.{eqb}
 use lib.ListN.{length}
 use Rattle.card_table.specs.Table.{cardSize}
-use Rattle.card_reader.specs.declared.Reading.{Reading}
-use Rattle.card_reader.specs.declared.Reading.the-variants.{Shown, Refused as NotShown}
+use Rattle.card_reader.specs.declared.CardReading.{CardReading}
+use Rattle.card_reader.specs.declared.CardReading.the-variants.{Shown, Refused as NotShown}
 use Rattle.card_reader.specs.Reading.{readCard}
-use Rattle.card_writer.specs.declared.Writing.the-variants.{Done, Refused}
+use Rattle.refusal.specs.declared.Written.the-variants.{Done, Refused}
 use Rattle.card_writer.specs.Writing.{kept}
 use Rattle.card.specs.Rewriting.{rewriteAnswer, rewriteOutput}
 use Rattle.card_laws.specs.Claims.{thenLength}
@@ -26,7 +26,7 @@ rewrite-done b e bytes h = go (readCard b e) (sym (rewrites-in-order b e bytes) 
     fits true p q = eqb-true bytes cardSize p
     fits false p q = let z : _≡_ {A = ℕ} 0 1 = cc in absurd (omega arith)
 
-    go : (r : Reading) → thenLength r bytes ≡ Done → bytes ≡ cardSize
+    go : (r : CardReading) → thenLength r bytes ≡ Done → bytes ≡ cardSize
     go (NotShown k) q = let z : _≡_ {A = ℕ} 0 1 = cc in absurd (omega arith)
     go (Shown f) q = fits (eqb bytes cardSize) refl q
 

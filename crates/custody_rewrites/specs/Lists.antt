@@ -5,8 +5,8 @@ use mathlib.Core.List.{List, [], _∷_}
 use lib.Dec.{eqb}
 use lib.ListN.{length, take, drop}
 use Rattle.card_table.specs.Table.{cardSize}
-use Rattle.card_writer.specs.declared.Writing.{Writing}
-use Rattle.card_writer.specs.declared.Writing.the-variants.{Done, Refused}
+use Rattle.refusal.specs.declared.Written.{Written}
+use Rattle.refusal.specs.declared.Written.the-variants.{Done, Refused}
 use Rattle.custody_book.specs.History.{Rewrite}
 
 abbrev pub sum : List ℕ → ℕ
@@ -28,6 +28,6 @@ fitting card editions lengths outputs answers =
     && eqb (sum lengths) outputs
 
 -- an answer as a number: 0 where the card was written, else the refusal's
-abbrev pub numberOf : Writing → ℕ
+abbrev pub numberOf : Written → ℕ
 numberOf Done = 0
 numberOf (Refused k) = k

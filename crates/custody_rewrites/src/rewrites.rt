@@ -6,7 +6,7 @@ ghost use Rattle.card_writer.specs.Writing.{kept};
 ghost use Rattle.card.specs.Rewriting.{rewriteAnswer, rewriteOutput};
 ghost use Rattle.custody_rewrites.specs.Rewriting.{cardAfterAll, outputsAfterAll, answersAfterAll};
 ghost use Rattle.custody_rewrites.specs.Lists.{sum, numberOf, rewritesOf};
-use card::Writing;
+use refusal::Written;
 
 // Stores a card.
 pub(crate) fn store(bytes: &[u8], out: &mut [u8])
@@ -29,8 +29,8 @@ fn rewrite(card: &mut [u8], edition: u8, out: &mut [u8]) -> u8
 {
     let answer = card::rewrite(card, edition, out);
     match answer {
-        Writing::Refused(number) => number,
-        Writing::Done => {
+        Written::Refused(number) => number,
+        Written::Done => {
             store(out, card);
             0
         }

@@ -8,7 +8,7 @@ use lib.ListN.{length}
 use Rattle.lists.specs.Lists.{tabulate}
 use Rattle.layout.specs.declared.Layout.{Layout}
 use Rattle.layout.specs.Layout.{validLayout}
-use Rattle.layout.specs.Refusal.{outside, wrongLineOrOutput}
+use Rattle.refusal.specs.Refusal.{outside, wrongLineOrOutput}
 use Rattle.quantization.specs.Value.{valueOf}
 use Rattle.quantization.specs.Answer.{scaleAt}
 use Rattle.line.specs.declared.LineAnswer.{LineAnswer}

@@ -3,7 +3,6 @@ ghost use mathlib.Core.Path.{_≡_};
 ghost use lib.ListN.{length};
 ghost use Rattle.decoding.specs.Decode.{decodeAnswer, decodeOutput, decodePoint};
 use layout::Layout;
-use layout::refusal;
 use line::LineAnswer;
 use line::Point;
 use quantization::Scales;

@@ -8,7 +8,7 @@ use lib.Ieee.{Float, nan}
 use lib.ListN.{length, getD}
 use Rattle.layout.specs.declared.Layout.{Layout}
 use Rattle.layout.specs.Layout.{kindOf}
-use Rattle.layout.specs.Refusal.{wrongLineOrOutput}
+use Rattle.refusal.specs.Refusal.{wrongLineOrOutput}
 use Rattle.quantization.specs.Answer.{named, dequantized}
 use Rattle.line.specs.declared.LineAnswer.the-variants.{Points, Refused as LineRefused}
 use Rattle.line.specs.declared.Point.{Point}

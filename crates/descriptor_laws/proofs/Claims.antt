@@ -9,9 +9,9 @@ use lib.Dec.{eqb}
 use lib.ListN.{length}
 use Rattle.layout.specs.declared.Layout.{Layout}
 use Rattle.layout.specs.Layout.{validLayout}
-use Rattle.descriptor_reader.specs.declared.Reading.the-variants.{Accepted}
-use Rattle.descriptor_writer.specs.declared.Writing.{Writing}
-use Rattle.descriptor_writer.specs.declared.Writing.the-variants.{Done, Refused}
+use Rattle.descriptor_reader.specs.declared.DescriptorReading.the-variants.{Accepted}
+use Rattle.refusal.specs.declared.Written.{Written}
+use Rattle.refusal.specs.declared.Written.the-variants.{Done, Refused}
 use Rattle.descriptor_reader.specs.Reading.{readDescriptor}
 use Rattle.descriptor_writer.specs.Writing.{descriptorBytes, writeAnswer, writeOutput}
 use Rattle.descriptor_writer.proofs.Answers.{done, changed}
@@ -24,7 +24,7 @@ written-valid : (l : Layout) (out : List ℕ) → writeAnswer l (length out) ≡
 unfolding writeAnswer
 written-valid l out = go (validLayout l) (cond (not (eqb (length out) 76)) (Refused 13) Done)
   where
-    go : (t : Bool) (y : Writing) → cond (not t) (Refused 9) y ≡ Done → t ≡ true
+    go : (t : Bool) (y : Written) → cond (not t) (Refused 9) y ≡ Done → t ≡ true
     go true y e = refl
     go false y e = let z : _≡_ {A = ℕ} 0 1 = cc in absurd (omega arith)
 

@@ -5,8 +5,8 @@ use mathlib.Core.List.{List, [], _∷_, _++_}
 use lib.ListN.{set}
 use Rattle.lists.specs.Bytes.{bytesOf}
 use Rattle.layout.specs.declared.Layout.{Layout}
-use Rattle.samples.specs.Samples.{states, allState, rangeIn, samplesRight}
-use Rattle.descriptor_reader.specs.declared.Reading.the-variants.{Accepted, Refused}
+use Rattle.descriptor_samples.specs.Samples.{states, allState, rangeIn, samplesRight}
+use Rattle.descriptor_reader.specs.declared.DescriptorReading.the-variants.{Accepted, Refused}
 use Rattle.descriptor_reader.specs.Sample.{sampleIn, samplesIn, offsetIn}
 use Rattle.descriptor_reader.specs.Header.{headerRight, colorRight, planesRight}
 use Rattle.descriptor_reader.specs.Reading.{layoutFrom, readSamples, readDescriptor}

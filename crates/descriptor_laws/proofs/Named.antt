@@ -10,12 +10,12 @@ use Rattle.lists.proofs.Tests.{and-left, and-right, and3, pass, stop}
 use Rattle.layout.specs.declared.Layout.{Layout}
 use Rattle.layout.specs.declared.range.Range.the-variants.{Narrow, Full}
 use Rattle.layout.specs.Layout.{rangeKnown, rangeOf, channelKnown, inside, apart, kindOf}
-use Rattle.samples.specs.declared.sample.Sample.{Sample}
-use Rattle.samples.specs.declared.samples.Samples.{Samples}
+use Rattle.descriptor_samples.specs.declared.sample.Sample.{Sample}
+use Rattle.descriptor_samples.specs.declared.samples.Samples.{Samples}
 use Rattle.descriptor_writer.specs.declared.field.Field.{Field}
 use Rattle.descriptor_writer.specs.Field.{rising, fieldsOf}
-use Rattle.samples.specs.Limits.{upperOf}
-use Rattle.samples.specs.Samples.{allState, rangeIn, eachOnce}
+use Rattle.descriptor_samples.specs.Limits.{upperOf}
+use Rattle.descriptor_samples.specs.Samples.{allState, rangeIn, eachOnce}
 use Rattle.descriptor_reader.specs.Sample.{offsetIn}
 use Rattle.descriptor_writer.specs.Sample.{sampleOf, samplesOf}
 use Rattle.descriptor_reader.proofs.Right.{Right}

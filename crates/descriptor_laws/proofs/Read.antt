@@ -17,12 +17,12 @@ use Rattle.lists.proofs.Tests.{and-left, and-right, and3}
 use Rattle.layout.specs.declared.Layout.{Layout}
 use Rattle.layout.specs.declared.range.Range.{Range}
 use Rattle.layout.specs.Layout.{modelKnown, primariesKnown, rangeKnown, rangeOf, depthKnown, bytesKnown, kindOf, validLayout}
-use Rattle.samples.specs.declared.sample.Sample.{Sample}
-use Rattle.samples.specs.declared.samples.Samples.{Samples}
-use Rattle.descriptor_reader.specs.declared.Reading.{Reading}
-use Rattle.descriptor_reader.specs.declared.Reading.the-variants.{Accepted, Refused}
-use Rattle.samples.specs.Limits.{lowerOf, upperOf}
-use Rattle.samples.specs.Samples.{states, allState, samplesRight}
+use Rattle.descriptor_samples.specs.declared.sample.Sample.{Sample}
+use Rattle.descriptor_samples.specs.declared.samples.Samples.{Samples}
+use Rattle.descriptor_reader.specs.declared.DescriptorReading.{DescriptorReading}
+use Rattle.descriptor_reader.specs.declared.DescriptorReading.the-variants.{Accepted, Refused}
+use Rattle.descriptor_samples.specs.Limits.{lowerOf, upperOf}
+use Rattle.descriptor_samples.specs.Samples.{states, allState, samplesRight}
 use Rattle.descriptor_reader.specs.Sample.{sampleIn, samplesIn}
 use Rattle.descriptor_writer.specs.Sample.{sampleBytes}
 use Rattle.descriptor_reader.specs.Header.{zeros, headerRight, colorRight, planesRight}
@@ -36,7 +36,7 @@ use Rattle.descriptor_laws.specs.Claims.{Bytes, AcceptsNoOther}
 
 -- ---- no row applied
 
-passed : (t : Bool) (k : ℕ) (y : Reading) (l : Layout) → cond t (Refused k) y ≡ Accepted l → (t ≡ false) × (y ≡ Accepted l)
+passed : (t : Bool) (k : ℕ) (y : DescriptorReading) (l : Layout) → cond t (Refused k) y ≡ Accepted l → (t ≡ false) × (y ≡ Accepted l)
 passed true k y l e = let z : _≡_ {A = ℕ} 0 1 = cc in absurd (omega arith)
 passed false k y l e = (refl, e)
 

@@ -15,14 +15,14 @@ use Rattle.layout.specs.declared.range.Range.the-variants.{Narrow, Full}
 use Rattle.layout.specs.Layout.{rangeOf, depthKnown, stepOf, kindOf, apart}
 use Rattle.layout.proofs.Depths.{steps}
 use Rattle.layout.proofs.Facts.{Valid}
-use Rattle.samples.specs.declared.sample.Sample.{Sample}
-use Rattle.samples.specs.declared.samples.Samples.{Samples}
-use Rattle.samples.specs.Limits.{lowerOf, upperOf}
+use Rattle.descriptor_samples.specs.declared.sample.Sample.{Sample}
+use Rattle.descriptor_samples.specs.declared.samples.Samples.{Samples}
+use Rattle.descriptor_samples.specs.Limits.{lowerOf, upperOf}
 use Rattle.descriptor_writer.specs.declared.field.Field.{Field}
 use Rattle.descriptor_writer.specs.declared.field.Fields.{Fields}
 use Rattle.descriptor_writer.specs.Field.{fieldsOf}
 use Rattle.descriptor_reader.specs.Reading.{layoutFrom}
-use Rattle.samples.specs.Samples.{states, allState, rangeIn, eachOnce, samplesRight}
+use Rattle.descriptor_samples.specs.Samples.{states, allState, rangeIn, eachOnce, samplesRight}
 use Rattle.descriptor_reader.specs.Sample.{samplesIn, offsetIn}
 use Rattle.descriptor_writer.specs.Sample.{sampleOf, samplesOf}
 use Rattle.descriptor_reader.proofs.Right.{Right}

@@ -18,13 +18,13 @@ use Rattle.layout.specs.declared.kind.Kind.the-variants.{Brightness, Difference
 use Rattle.layout.specs.Layout.{rangeOf, bytesKnown, kindOf}
 use Rattle.layout.proofs.Depths.{Steps, steps}
 use Rattle.layout.proofs.Facts.{Valid, valid-says}
-use Rattle.samples.specs.declared.sample.Sample.{Sample}
-use Rattle.samples.specs.declared.samples.Samples.{Samples}
-use Rattle.descriptor_reader.specs.declared.Reading.the-variants.{Accepted}
+use Rattle.descriptor_samples.specs.declared.sample.Sample.{Sample}
+use Rattle.descriptor_samples.specs.declared.samples.Samples.{Samples}
+use Rattle.descriptor_reader.specs.declared.DescriptorReading.the-variants.{Accepted}
 use Rattle.descriptor_writer.specs.declared.field.Field.{Field}
 use Rattle.descriptor_writer.specs.Field.{fieldsOf}
-use Rattle.samples.specs.Limits.{lowerOf, upperOf}
-use Rattle.samples.specs.Samples.{samplesRight}
+use Rattle.descriptor_samples.specs.Limits.{lowerOf, upperOf}
+use Rattle.descriptor_samples.specs.Samples.{samplesRight}
 use Rattle.descriptor_reader.specs.Sample.{sampleIn, samplesIn}
 use Rattle.descriptor_writer.specs.Sample.{sampleBytes, sampleOf, samplesOf}
 use Rattle.descriptor_reader.specs.Header.{headerRight, colorRight, planesRight}

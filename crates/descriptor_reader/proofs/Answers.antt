@@ -8,10 +8,10 @@ use lib.ListN.{length, getD}
 use Rattle.lists.proofs.Tests.{and-left, and-right, pass, stop}
 use Rattle.layout.specs.declared.Layout.{Layout}
 use Rattle.layout.specs.Layout.{bytesKnown}
-use Rattle.samples.specs.declared.samples.Samples.{Samples}
-use Rattle.samples.specs.Samples.{samplesRight, rangeIn}
+use Rattle.descriptor_samples.specs.declared.samples.Samples.{Samples}
+use Rattle.descriptor_samples.specs.Samples.{samplesRight, rangeIn}
 use Rattle.descriptor_reader.specs.Sample.{samplesIn}
-use Rattle.descriptor_reader.specs.declared.Reading.the-variants.{Accepted, Refused}
+use Rattle.descriptor_reader.specs.declared.DescriptorReading.the-variants.{Accepted, Refused}
 use Rattle.descriptor_reader.specs.Header.{zeros, headerRight, colorRight, planesRight}
 use Rattle.descriptor_reader.specs.Reading.{layoutFrom, readSamples, readDescriptor}
 

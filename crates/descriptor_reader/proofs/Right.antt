@@ -8,8 +8,8 @@ use lib.Dec.{eqb, leb}
 use Rattle.lists.proofs.Tests.{and-left, and-right, and3}
 use Rattle.layout.specs.Layout.{depthKnown, bytesKnown}
 use Rattle.layout.proofs.Depths.{known-between}
-use Rattle.samples.specs.declared.samples.Samples.{Samples}
-use Rattle.samples.specs.Samples.{eachOnce, inOrder, samplesRight}
+use Rattle.descriptor_samples.specs.declared.samples.Samples.{Samples}
+use Rattle.descriptor_samples.specs.Samples.{eachOnce, inOrder, samplesRight}
 use Rattle.descriptor_reader.specs.Sample.{offsetIn}
 
 -- the facts behind the tests

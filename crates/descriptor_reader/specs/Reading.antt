@@ -5,11 +5,11 @@ use mathlib.Core.List.{List}
 use lib.Dec.{eqb}
 use lib.ListN.{length, getD}
 use Rattle.layout.specs.declared.Layout.{Layout}
-use Rattle.layout.specs.Refusal.{wrongLength, wrongHeader, wrongColor, wrongPlanes, wrongSample, noRange}
-use Rattle.samples.specs.declared.samples.Samples.{Samples}
-use Rattle.samples.specs.Samples.{samplesRight, rangeIn}
-use Rattle.descriptor_reader.specs.declared.Reading.{Reading}
-use Rattle.descriptor_reader.specs.declared.Reading.the-variants.{Accepted, Refused}
+use Rattle.refusal.specs.Refusal.{wrongLength, wrongHeader, wrongColor, wrongPlanes, wrongSample, noRange}
+use Rattle.descriptor_samples.specs.declared.samples.Samples.{Samples}
+use Rattle.descriptor_samples.specs.Samples.{samplesRight, rangeIn}
+use Rattle.descriptor_reader.specs.declared.DescriptorReading.{DescriptorReading}
+use Rattle.descriptor_reader.specs.declared.DescriptorReading.the-variants.{Accepted, Refused}
 use Rattle.descriptor_reader.specs.Sample.{samplesIn, offsetIn}
 use Rattle.descriptor_reader.specs.Header.{headerRight, colorRight, planesRight}
 
@@ -28,7 +28,7 @@ layoutFrom model primaries range bytes s =
     }
 
 -- what the samples tell with model, primaries and bytes a point: rows 5 and 6, and the layout
-unfoldable pub readSamples : ℕ → ℕ → ℕ → Samples → Reading
+unfoldable pub readSamples : ℕ → ℕ → ℕ → Samples → DescriptorReading
 readSamples model primaries bytes s =
     let range = rangeIn model (s .first .length + 1) s in
     cond (not (samplesRight bytes s)) (Refused wrongSample)
@@ -36,7 +36,7 @@ readSamples model primaries bytes s =
     (Accepted (layoutFrom model primaries range bytes s)))
 
 -- what reading answers, by the rows 1 to 6
-unfoldable pub readDescriptor : List ℕ → Reading
+unfoldable pub readDescriptor : List ℕ → DescriptorReading
 readDescriptor b =
     cond (not (eqb (length b) 76)) (Refused wrongLength)
     (cond (not (headerRight b)) (Refused wrongHeader)

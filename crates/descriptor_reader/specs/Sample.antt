@@ -5,8 +5,8 @@ use mathlib.Core.List.{List}
 use lib.Dec.{eqb}
 use lib.ListN.{getD}
 use Rattle.lists.specs.Bytes.{numberAt}
-use Rattle.samples.specs.declared.sample.Sample.{Sample}
-use Rattle.samples.specs.declared.samples.Samples.{Samples}
+use Rattle.descriptor_samples.specs.declared.sample.Sample.{Sample}
+use Rattle.descriptor_samples.specs.declared.samples.Samples.{Samples}
 
 -- the sample that the bytes from place i on hold
 unfoldable pub sampleIn : List ℕ → ℕ → Sample

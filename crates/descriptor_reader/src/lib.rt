@@ -2,33 +2,32 @@
 ghost use mathlib.Core.Path.{_≡_};
 ghost use Rattle.descriptor_reader.specs.Reading.{readDescriptor};
 use layout::Layout;
-use layout::refusal;
 
 mod header;
 mod number;
 mod sample;
 
 // The layout that a descriptor tells, or the refusal's number.
-pub enum Reading {
+pub enum DescriptorReading {
     Accepted(Layout),
     Refused(u8),
 }
 
 // The layout that the bytes tell. Refused: 1 to 6, in this order.
-pub fn read(bytes: &[u8]) -> Reading
+pub fn read(bytes: &[u8]) -> DescriptorReading
     ensures answer { λ r. ⌜ r ≡ readDescriptor (now (bytes .entry)) ⌝ }
 {
     if bytes.len() != 76 {
-        return Reading::Refused(refusal::WRONG_LENGTH);
+        return DescriptorReading::Refused(refusal::WRONG_LENGTH);
     }
     if !header::header_right(bytes) {
-        return Reading::Refused(refusal::WRONG_HEADER);
+        return DescriptorReading::Refused(refusal::WRONG_HEADER);
     }
     if !header::color_right(bytes) {
-        return Reading::Refused(refusal::WRONG_COLOR);
+        return DescriptorReading::Refused(refusal::WRONG_COLOR);
     }
     if !header::planes_right(bytes) {
-        return Reading::Refused(refusal::WRONG_PLANES);
+        return DescriptorReading::Refused(refusal::WRONG_PLANES);
     }
     sample::told(bytes[12], bytes[13], bytes[20], sample::samples_in(bytes))
 }

@@ -4,17 +4,16 @@ ghost use mathlib.Core.Bool.{true};
 ghost use lib.ListN.{length};
 ghost use Prim.Native.Nat.{_+_, _≤_};
 ghost use Rattle.layout.specs.Layout.{bytesKnown};
-ghost use Rattle.samples.specs.Samples.{samplesRight};
+ghost use Rattle.descriptor_samples.specs.Samples.{samplesRight};
 ghost use Rattle.descriptor_reader.specs.Sample.{sampleIn, samplesIn, offsetIn};
 ghost use Rattle.descriptor_reader.specs.Reading.{layoutFrom, readSamples};
-use crate::Reading;
+use crate::DescriptorReading;
 use crate::number::number2;
 use crate::number::number4;
+use descriptor_samples::Sample;
+use descriptor_samples::Samples;
 use layout::Depth;
 use layout::Layout;
-use layout::refusal;
-use samples::Sample;
-use samples::Samples;
 
 // The sample that the bytes from place i on hold.
 fn sample_in(bytes: &[u8], i: usize) -> Sample
@@ -76,17 +75,17 @@ fn layout_from(model: u8, primaries: u8, range: u8, bytes: u8, samples: Samples)
 }
 
 // The layout that the samples tell with what stands before them. Refused: 5, then 6.
-pub(crate) fn told(model: u8, primaries: u8, bytes: u8, samples: Samples) -> Reading
+pub(crate) fn told(model: u8, primaries: u8, bytes: u8, samples: Samples) -> DescriptorReading
     requires { ⌜ bytesKnown bytes ≡ true ⌝ }
     ensures { λ r. ⌜ r ≡ readSamples model primaries bytes samples ⌝ }
 {
     if !samples.right(bytes) {
-        return Reading::Refused(refusal::WRONG_SAMPLE);
+        return DescriptorReading::Refused(refusal::WRONG_SAMPLE);
     }
     let length = samples.first.length;
     let range = samples.range(model, Depth::of(length + 1));
     if range == 0 {
-        return Reading::Refused(refusal::NO_RANGE);
+        return DescriptorReading::Refused(refusal::NO_RANGE);
     }
-    Reading::Accepted(layout_from(model, primaries, range, bytes, samples))
+    DescriptorReading::Accepted(layout_from(model, primaries, range, bytes, samples))
 }

@@ -8,8 +8,8 @@ use lib.ListN.{length}
 use Rattle.lists.proofs.Tests.{pass, stop}
 use Rattle.layout.specs.declared.Layout.{Layout}
 use Rattle.layout.specs.Layout.{validLayout}
-use Rattle.descriptor_writer.specs.declared.Writing.{Writing}
-use Rattle.descriptor_writer.specs.declared.Writing.the-variants.{Done, Refused}
+use Rattle.refusal.specs.declared.Written.{Written}
+use Rattle.refusal.specs.declared.Written.the-variants.{Done, Refused}
 use Rattle.descriptor_writer.specs.Writing.{descriptorBytes, writeAnswer, kept, writeOutput}
 
 module _ (l : Layout) (out : List ℕ) where
@@ -28,8 +28,8 @@ module _ (l : Layout) (out : List ℕ) where
   -- what the output then holds
   pub unchanged : (k : ℕ) → Refused k ≡ writeAnswer l (length out) → out ≡ writeOutput l out
   unfolding writeOutput
-  unchanged k e = ap (λ (a : Writing). kept a out (descriptorBytes l)) e
+  unchanged k e = ap (λ (a : Written). kept a out (descriptorBytes l)) e
 
   pub changed : (bytes : List ℕ) → Done ≡ writeAnswer l (length out) → bytes ≡ descriptorBytes l → bytes ≡ writeOutput l out
   unfolding writeOutput
-  changed bytes e q = q ∙ ap (λ (a : Writing). kept a out (descriptorBytes l)) e
+  changed bytes e q = q ∙ ap (λ (a : Written). kept a out (descriptorBytes l)) e

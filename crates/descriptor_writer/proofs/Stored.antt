@@ -12,7 +12,7 @@ use Rattle.lists.proofs.Lists.{is-tabulate, written-none, written-join}
 use Rattle.lists.proofs.Filled.{filled-none, filled-more, filled-all}
 use Rattle.layout.specs.declared.Layout.{Layout}
 use Rattle.descriptor_writer.specs.declared.field.Fields.{Fields}
-use Rattle.samples.specs.declared.sample.Sample.{Sample}
+use Rattle.descriptor_samples.specs.declared.sample.Sample.{Sample}
 use Rattle.descriptor_writer.specs.Field.{fieldsOf}
 use Rattle.descriptor_writer.specs.Sample.{sampleBytes, sampleOf, samplesOf}
 use Rattle.descriptor_writer.specs.Writing.{frontBytes, samplesBytes, descriptorBytes, stored}

@@ -4,9 +4,9 @@ use mathlib.Core.List.{List, _∷_, _++_}
 use Rattle.lists.specs.Bytes.{bytesOf}
 use Rattle.layout.specs.declared.Layout.{Layout}
 use Rattle.layout.specs.Layout.{rangeOf, kindOf}
-use Rattle.samples.specs.declared.sample.Sample.{Sample}
-use Rattle.samples.specs.declared.samples.Samples.{Samples}
-use Rattle.samples.specs.Limits.{lowerOf, upperOf}
+use Rattle.descriptor_samples.specs.declared.sample.Sample.{Sample}
+use Rattle.descriptor_samples.specs.declared.samples.Samples.{Samples}
+use Rattle.descriptor_samples.specs.Limits.{lowerOf, upperOf}
 use Rattle.descriptor_writer.specs.declared.field.Field.{Field}
 use Rattle.descriptor_writer.specs.Field.{fieldsOf}
 

@@ -8,9 +8,9 @@ use Rattle.lists.specs.Lists.{written}
 use Rattle.lists.specs.Bytes.{bytesOf}
 use Rattle.layout.specs.declared.Layout.{Layout}
 use Rattle.layout.specs.Layout.{validLayout}
-use Rattle.layout.specs.Refusal.{outside, wrongLineOrOutput}
-use Rattle.descriptor_writer.specs.declared.Writing.{Writing}
-use Rattle.descriptor_writer.specs.declared.Writing.the-variants.{Done, Refused}
+use Rattle.refusal.specs.Refusal.{outside, wrongLineOrOutput}
+use Rattle.refusal.specs.declared.Written.{Written}
+use Rattle.refusal.specs.declared.Written.the-variants.{Done, Refused}
 use Rattle.descriptor_writer.specs.Sample.{sampleBytes, samplesOf}
 
 -- bytes 0 to 27: at 0 the total size, at 4 vendor and type, at 8 the version, at 10 the block size; at 12 model, primaries, transfer (ITU) and flags; at 16 zeros, at 20 the bytes a point, and zeros
@@ -39,14 +39,14 @@ abbrev pub stored : List ℕ → ℕ → List ℕ → List ℕ
 stored out at part = written out at (λ k. getD part k 0) (length part)
 
 -- writing into so many bytes: 9, then 13
-unfoldable pub writeAnswer : Layout → ℕ → Writing
+unfoldable pub writeAnswer : Layout → ℕ → Written
 writeAnswer l bytes =
     cond (not (validLayout l)) (Refused outside)
     (cond (not (eqb bytes 76)) (Refused wrongLineOrOutput)
     Done)
 
 -- an output afterwards: what is written, or what was there before where it is refused
-abbrev pub kept : Writing → List ℕ → List ℕ → List ℕ
+abbrev pub kept : Written → List ℕ → List ℕ → List ℕ
 kept Done before after = after
 kept (Refused k) before after = before
 

@@ -5,11 +5,11 @@ ghost use Rattle.layout.specs.Layout.{depthKnown};
 ghost use Rattle.descriptor_writer.specs.Sample.{sampleBytes, sampleOf};
 ghost use Rattle.descriptor_writer.specs.Writing.{frontBytes};
 use crate::field::Field;
+use descriptor_samples::Limits;
 use layout::Depth;
 use layout::Kind;
 use layout::Layout;
 use layout::Range;
-use samples::Limits;
 
 // Bytes 0 to 27 of a layout's descriptor.
 pub(crate) fn front_bytes(layout: Layout) -> [u8; 28]

@@ -3,7 +3,7 @@ ghost use mathlib.Core.Path.{_≡_};
 ghost use lib.ListN.{length};
 ghost use Rattle.descriptor_writer.specs.Writing.{writeAnswer, writeOutput};
 use layout::Layout;
-use layout::refusal;
+use refusal::Written;
 
 mod bytes;
 mod field;
@@ -12,25 +12,19 @@ mod store;
 pub use field::Field;
 pub use field::Fields;
 
-// That a descriptor was written, or the refusal's number.
-pub enum Writing {
-    Done,
-    Refused(u8),
-}
-
 // Writes the descriptor of a layout. Refused: 9, then 13; `out` is then as it was.
-pub fn write(layout: Layout, out: &mut [u8]) -> Writing
+pub fn write(layout: Layout, out: &mut [u8]) -> Written
     ensures answer { λ r. ⌜ r ≡ writeAnswer layout (length (now (out .entry))) ⌝ }
     ensures memory { λ r. ⌜ now (out .exit) ≡ writeOutput layout (now (out .entry)) ⌝ }
 {
     if !layout.valid() {
-        return Writing::Refused(refusal::OUTSIDE);
+        return Written::Refused(refusal::OUTSIDE);
     }
     if out.len() != 76 {
-        return Writing::Refused(refusal::WRONG_LINE_OR_OUTPUT);
+        return Written::Refused(refusal::WRONG_LINE_OR_OUTPUT);
     }
     let header = bytes::front_bytes(layout);
     store::put(&header, 0, out);
     store::put_samples(layout, out);
-    Writing::Done
+    Written::Done
 }

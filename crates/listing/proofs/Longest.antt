@@ -13,8 +13,8 @@ use Rattle.card_table.specs.declared.facts.Facts.{Facts}
 use Rattle.card_table.specs.Facts.{sideKnown, accessKnown, factsValid}
 use Rattle.card_table.specs.Edition.{editionKnown, leastEdition}
 use Rattle.card_table.specs.Table.{cardSize}
-use Rattle.card_reader.specs.declared.Reading.{Reading}
-use Rattle.card_reader.specs.declared.Reading.the-variants.{Shown, Refused}
+use Rattle.card_reader.specs.declared.CardReading.{CardReading}
+use Rattle.card_reader.specs.declared.CardReading.the-variants.{Shown, Refused}
 use Rattle.card_reader.specs.Reading.{writerOf, factsIn, frontRight, accessUnknown, endWrong, readCard}
 use Rattle.card_reader.proofs.Shown.{accepted}
 use Rattle.stack.specs.Stack.{cardsIn, wholeStack}
@@ -79,7 +79,7 @@ unfolding cardLine
 refused-line b n h = ap readingLine (sym h)
 
 -- a row's number is small, and so is the next row's
-small : (t : Bool) (k n : ℕ) {rest : Reading} → k < 16 → (rest ≡ Refused n → n < 16) → cond t (Refused k) rest ≡ Refused n → n < 16
+small : (t : Bool) (k n : ℕ) {rest : CardReading} → k < 16 → (rest ≡ Refused n → n < 16) → cond t (Refused k) rest ≡ Refused n → n < 16
 small true k n h r e = let z : k ≡ n = cc in omega arith
 small false k n h r e = r e
 
@@ -94,7 +94,7 @@ refused-small b e n =
     (small (accessUnknown (writerOf b) (getD b 24 0) e) 10 n (lit< tt)
     (small (endWrong b e) 9 n (lit< tt) (λ h. let z : _≡_ {A = ℕ} 0 1 = cc in absurd (omega arith))))))))
 
-longest : (b : List ℕ) (r : Reading) → readCard b 2 ≡ r → length (readingLine r) ≤ 41
+longest : (b : List ℕ) (r : CardReading) → readCard b 2 ≡ r → length (readingLine r) ≤ 41
 longest b (Shown f) h =
     let a = accepted b 2 f h in
     facts-longest f (subst (λ (g : Facts). factsValid g ≡ true) (a .is) (front-valid b (factsIn b 2) (a .front)))

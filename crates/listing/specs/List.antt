@@ -3,9 +3,9 @@ use Prim.Native.Nat.{ℕ, zero, suc}
 use mathlib.Core.Bool.{cond}
 use mathlib.Core.List.{List, [], _++_}
 use lib.ListN.{length}
-use Rattle.layout.specs.Refusal.{wrongLength}
-use Rattle.card_reader.specs.declared.Reading.{Reading}
-use Rattle.card_reader.specs.declared.Reading.the-variants.{Shown, Refused}
+use Rattle.refusal.specs.Refusal.{wrongLength}
+use Rattle.card_reader.specs.declared.CardReading.{CardReading}
+use Rattle.card_reader.specs.declared.CardReading.the-variants.{Shown, Refused}
 use Rattle.card_reader.specs.Reading.{readCard}
 use Rattle.stack.specs.Stack.{cardsIn, wholeStack, cardAt}
 use Rattle.listing.specs.Decimal.{decimal}
@@ -28,7 +28,7 @@ unfoldable pub numberLine : List ℕ → ℕ → List ℕ
 numberLine words n = words ++ decimal n ++ newline
 
 -- the line of what a card shows: `ITEM WORD WIDTHxHEIGHT`, or `- refused N`
-abbrev pub readingLine : Reading → List ℕ
+abbrev pub readingLine : CardReading → List ℕ
 readingLine (Shown f) = itemText (f .item) (f .access) ++ sizeText (f .width) (f .height)
 readingLine (Refused n) = numberLine cardRefused n
 

@@ -6,7 +6,7 @@ use mathlib.Core.List.{List, _++_}
 use lib.Dec.{ltb}
 use lib.ListN.{length, drop}
 use lib.Seq.{sets}
-use Rattle.layout.specs.Refusal.{wrongLineOrOutput}
+use Rattle.refusal.specs.Refusal.{wrongLineOrOutput}
 use Rattle.listing.specs.declared.Text.{Text}
 use Rattle.listing.specs.declared.Text.the-variants.{Written, Refused}
 

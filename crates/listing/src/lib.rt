@@ -6,7 +6,6 @@ ghost use Rattle.stack.specs.Stack.{cardsIn};
 ghost use Rattle.listing.specs.List.{cardLines, listText};
 ghost use Rattle.listing.specs.Text.{Put, longestLine, textAnswer, textOutput};
 use card_table::Card;
-use layout::refusal;
 use stack::whole;
 
 mod field;

@@ -1,17 +1,16 @@
 // The lines of the list.
 ghost use lib.ListN.{length};
 ghost use Prim.Native.Nat.{_+_, _≤_};
-ghost use Rattle.card_reader.specs.declared.Reading.the-variants.{Shown};
+ghost use Rattle.card_reader.specs.declared.CardReading.the-variants.{Shown};
 ghost use Rattle.listing.specs.List.{readingLine, cardLine, firstLine};
 ghost use Rattle.listing.specs.Text.{Put, longestLine, longestFirst};
 use crate::field::put_item;
 use crate::field::put_line;
 use crate::field::put_size;
-use card_reader::Reading;
+use card_reader::CardReading;
 use card_reader::read;
 use card_table::Card;
 use card_table::Facts;
-use layout::refusal;
 use stack::whole;
 
 // The edition at which a stack is listed. specs/List.antt has the same.
@@ -33,8 +32,8 @@ pub(crate) fn put_card(card: &[u8], at: usize, out: &mut [u8]) -> usize
 {
     let reading = read(card, EDITION);
     match reading {
-        Reading::Refused(number) => put_line(b"- refused ", number as u64, at, out),
-        Reading::Shown(facts) => put_facts(facts, at, out),
+        CardReading::Refused(number) => put_line(b"- refused ", number as u64, at, out),
+        CardReading::Shown(facts) => put_facts(facts, at, out),
     }
 }
 

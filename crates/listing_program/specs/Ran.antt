@@ -5,7 +5,7 @@ use mathlib.Core.Path.{_≡_}
 use mathlib.Core.List.{List, _++_}
 use lib.Dec.{eqb, leb}
 use lib.ListN.{length, take, drop}
-use Rattle.layout.specs.Refusal.{wrongLineOrOutput}
+use Rattle.refusal.specs.Refusal.{wrongLineOrOutput}
 use Rattle.listing.specs.List.{listText}
 use Rattle.listing.specs.Text.{longestList}
 use Rattle.listing_program.specs.declared.Ran.{Ran}

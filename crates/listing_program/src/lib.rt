@@ -7,7 +7,6 @@ ghost use Rattle.listing.specs.Text.{longestList};
 ghost use Rattle.listing_program.specs.Input.{Within};
 ghost use Rattle.listing_program.specs.Ran.{ListedAs, fits, Holds};
 use card_table::Card;
-use layout::refusal;
 use libc::STDERR_FILENO;
 use libc::STDIN_FILENO;
 use libc::STDOUT_FILENO;

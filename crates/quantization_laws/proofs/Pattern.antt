@@ -9,7 +9,7 @@ use lib.Ieee.Exact.{odd-sign}
 use Rattle.quantization.specs.declared.scale.Scale.{Scale}
 use Rattle.quantization.specs.declared.code.Coded.the-variants.{Code}
 use Rattle.quantization.specs.Code.{codeOfValue, codeOf}
-use Rattle.quantization.specs.Whole.{wholeCode}
+use Rattle.quantization.specs.inner.Whole.{wholeCode}
 use Rattle.quantization.proofs.Codes.{code-of-fraction, code-of-value, whole-same}
 use Rattle.quantization.proofs.Fields.{finite}
 use Rattle.quantization_laws.specs.Pattern.{signBit, fieldOf, digitsOf, byField, patternValue}

@@ -20,7 +20,7 @@ use Rattle.quantization.specs.declared.code.Coded.the-variants.{Code}
 use Rattle.quantization.specs.Scale.{scaleOf}
 use Rattle.quantization.specs.Value.{valueOf}
 use Rattle.quantization.specs.Code.{codeOf}
-use Rattle.quantization.specs.Whole.{moved, wholeCode}
+use Rattle.quantization.specs.inner.Whole.{moved, wholeCode}
 use Rattle.quantization.proofs.Codes.{Small, code-of-value, quotient-is}
 use Rattle.quantization.proofs.Scales.{scaleBy, by-step}
 use Rattle.quantization.proofs.Fields.{U}

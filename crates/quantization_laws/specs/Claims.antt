@@ -8,7 +8,7 @@ use Rattle.fractions.specs.Fraction.{clamp}
 use Rattle.layout.specs.declared.range.Range.{Range}
 use Rattle.layout.specs.declared.kind.Kind.{Kind}
 use Rattle.layout.specs.Layout.{rangeOf, kindOf, topOf}
-use Rattle.layout.specs.Refusal.{notANumber}
+use Rattle.refusal.specs.Refusal.{notANumber}
 use Rattle.quantization.specs.declared.Quantized.the-variants.{Code, Refused}
 use Rattle.quantization.specs.Scale.{scaleOf}
 use Rattle.quantization.specs.Value.{valueOf}

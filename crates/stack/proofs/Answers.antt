@@ -8,7 +8,7 @@ use borrow.Author.Tests.{leb-true}
 use lib.Dec.{eqb, leb}
 use lib.ListN.{length, take, drop}
 use Rattle.lists.proofs.Tests.{and-right, pass, stop}
-use Rattle.layout.specs.Refusal.{wrongLength, unknownEdition}
+use Rattle.refusal.specs.Refusal.{wrongLength, unknownEdition}
 use Rattle.card_table.specs.Edition.{editionKnown}
 use Rattle.card_table.specs.Table.{cardSize}
 use Rattle.stack.specs.declared.Found.{Found}

@@ -5,7 +5,7 @@ use mathlib.Core.Path.{_≡_, refl, sym, ap, _∙_}
 use mathlib.Core.Logic.{_⊎_, inl, inr, ⊎-elim}
 use native.Mathlib.Nat.{eq-or-lt-of-le}
 use native.Mathlib.Omega.{arith}
-use Rattle.layout.specs.Refusal.{noItem}
+use Rattle.refusal.specs.Refusal.{noItem}
 use Rattle.stack.specs.declared.Found.the-variants.{At, Refused}
 use Rattle.stack.specs.Finding.{first}
 

@@ -3,7 +3,7 @@ use Prim.Native.Nat.{ℕ, zero, suc, _+_, _*_}
 use mathlib.Core.Bool.{Bool, not, cond}
 use mathlib.Core.List.{List, []}
 use lib.ListN.{length}
-use Rattle.layout.specs.Refusal.{wrongLength, unknownEdition, noItem}
+use Rattle.refusal.specs.Refusal.{wrongLength, unknownEdition, noItem}
 use Rattle.card_table.specs.Edition.{editionKnown}
 use Rattle.card_table.specs.Table.{cardSize}
 use Rattle.card_reader.specs.Reading.{readCard, showsItem}

@@ -7,7 +7,6 @@ ghost use Rattle.stack.specs.Stack.{wholeStack};
 ghost use Rattle.stack.specs.Finding.{located, part, placed};
 use card_table::Card;
 use card_table::edition;
-use layout::refusal;
 
 // Where a card is, counted in cards from 0, or the refusal's number.
 pub enum Found {

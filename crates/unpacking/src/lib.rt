@@ -3,7 +3,6 @@ ghost use mathlib.Core.Path.{_≡_};
 ghost use lib.ListN.{length};
 ghost use Rattle.line.specs.Answer.{unpackAnswer, unpackOutput};
 use layout::Layout;
-use layout::refusal;
 use line::LineAnswer;
 
 mod field;

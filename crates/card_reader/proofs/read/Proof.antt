@@ -9,7 +9,7 @@ use lib.ListN.{length, getD}
 use borrow.Author.Tests.{eq-eqb, ne-eqb, lt-ltb, le-ltb, not-true, not-false}
 use Rattle.card_table.specs.Edition.{editionKnown}
 use Rattle.card_table.specs.Table.{cardSize}
-use Rattle.card_reader.specs.declared.Reading.the-variants.{Shown}
+use Rattle.card_reader.specs.declared.CardReading.the-variants.{Shown}
 use Rattle.card_reader.specs.Reading.{factsIn, frontRight}
 use Rattle.card_reader.proofs.Answers.{refused-1, refused-7, refused-9, refused-8, refused-front, refused-10, refused-end, shown}
 use borrow.Author.Needs.{needs}

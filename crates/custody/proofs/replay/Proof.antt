@@ -3,7 +3,7 @@ use mathlib.Core.Path.{_≡_, refl, sym, _∙_}
 use denote.Ref.{now}
 use borrow.Author.Tests.{not-true, not-false}
 use Rattle.card_table.specs.Table.{cardSize}
-use Rattle.card_writer.specs.declared.Writing.the-variants.{Done}
+use Rattle.refusal.specs.declared.Written.the-variants.{Done}
 use Rattle.card_writer.specs.Writing.{writeAnswer}
 use Rattle.custody.specs.Replay.{Given}
 use Rattle.custody.proofs.Whole.{not-written, misfit, replays}

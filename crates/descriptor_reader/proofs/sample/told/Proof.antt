@@ -6,7 +6,7 @@ use lib.Dec.{eqb}
 use borrow.Author.Tests.{eq-eqb, ne-eqb, not-true, not-false}
 use Rattle.layout.specs.Layout.{bitsOf}
 use Rattle.layout.proofs.Depths.{known-bits}
-use Rattle.samples.specs.Samples.{samplesRight, rangeIn}
+use Rattle.descriptor_samples.specs.Samples.{samplesRight, rangeIn}
 use Rattle.descriptor_reader.proofs.Right.{right-says, length-lt}
 use Rattle.descriptor_reader.proofs.Answers.{refused-5, refused-6, accepted-as}
 use borrow.Author.Needs.{needs}

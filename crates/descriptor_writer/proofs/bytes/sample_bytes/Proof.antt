@@ -4,7 +4,7 @@ use Prim.Native.Nat.{_-_, _<_}
 use native.Mathlib.Omega.{arith}
 use Rattle.layout.specs.Layout.{rangeOf, bitsOf, kindOf}
 use Rattle.layout.proofs.Depths.{known-bits, known-between}
-use Rattle.samples.specs.Limits.{limitsOf}
+use Rattle.descriptor_samples.specs.Limits.{limitsOf}
 use Rattle.descriptor_writer.specs.Sample.{sampleBytes, sampleOf}
 use Rattle.descriptor_writer.proofs.Small.{small-sample}
 use borrow.Author.Needs.{needs}

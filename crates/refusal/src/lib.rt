@@ -1,0 +1,52 @@
+// The numbers of the refusals (document 01, "Numbers on the refusal slip"). specs/Refusal.antt has the same rows.
+
+// What writing into an output answers: done, or the refusal's number.
+pub enum Written {
+    Done,
+    Refused(u8),
+}
+
+// A descriptor is not of 76 bytes, a card not of 32, or a stack not of whole cards or of over 1,024.
+pub const WRONG_LENGTH: u8 = 1;
+
+// Bytes 0 to 11 of a descriptor are wrong.
+pub const WRONG_HEADER: u8 = 2;
+
+// Bytes 12 to 15 of a descriptor are wrong.
+pub const WRONG_COLOR: u8 = 3;
+
+// Bytes 16 to 27 of a descriptor are wrong.
+pub const WRONG_PLANES: u8 = 4;
+
+// A sample's offset, length, channel, position or order is wrong.
+pub const WRONG_SAMPLE: u8 = 5;
+
+// The lower and upper numbers of the samples state no one range.
+pub const NO_RANGE: u8 = 6;
+
+// The edition asked is not 1 or 2.
+pub const UNKNOWN_EDITION: u8 = 7;
+
+// The card's byte 0 is above the edition asked.
+pub const LATER_EDITION: u8 = 8;
+
+// A card field, layout, range, depth, channel or weights row is outside the paper.
+pub const OUTSIDE: u8 = 9;
+
+// The access is above 2 in a card written at 2 and read at 2.
+pub const UNKNOWN_ACCESS: u8 = 10;
+
+// Edition 1 is asked to write 12 bits, or an access other than closed.
+pub const UNWRITABLE: u8 = 11;
+
+// A float is not a number.
+pub const NOT_A_NUMBER: u8 = 12;
+
+// A line is not of whole points or of over 4,096, or an output is not exactly as long as needed.
+pub const WRONG_LINE_OR_OUTPUT: u8 = 13;
+
+// A code is above 2^n - 1.
+pub const CODE_TOO_HIGH: u8 = 14;
+
+// No card that the edition reads has the item.
+pub const NO_ITEM: u8 = 15;
