@@ -1,8 +1,7 @@
-//! Makes the sample stack and the stacks on which the gate runs the program, each with
+//! Makes the sample stack and the stacks on which the gate runs the programs, each with
 //! the list that the reference gives for it.
 
 use std::fs;
-use std::path::Path;
 
 use reference::card::{self, Facts, CLOSED, COMMUNITY, OPEN, SIZE};
 use reference::stack::{self, MOST_CARDS};
@@ -29,25 +28,38 @@ const ITEM: usize = 16;
 const ACCESS: usize = 24;
 
 fn main() {
-    let empty: &[Card] = &[];
-    let paper = [written(2, BITS_10, 720, 576, 7, OPEN), [0; SIZE]];
+    let paper = [written(2, BITS_10, 720, 576, 7, OPEN), [0; SIZE]].concat();
     let too_long = [written(2, BITS_8, 1, 1, 1, OPEN); MOST_CARDS + 1];
-    store("crates/stack_list", &paper.concat());
-    store("crates/stack_list_empty", &empty.concat());
-    store("crates/stack_list_refused", &[&paper.concat()[..], &[0]].concat());
-    store("crates/stack_list_too_long", &too_long.concat());
-    store("crates/stack_list_full", &full().concat());
+    store("crates/stack_list/stdin", &paper);
+    store("crates/stack_list/stdout", stack::list(&paper));
+    store_cases(&[
+        ("empty", Vec::new()),
+        ("refused", [&paper[..], &[0]].concat()),
+        ("too_long", too_long.concat()),
+        ("full", full().concat()),
+    ]);
 
     let archive = archive().concat();
-    fs::write("samples/archive.stack", &archive).expect("the sample can be written");
-    fs::write("samples/archive.list", stack::list(&archive)).expect("its list can be written");
+    store("samples/archive.stack", &archive);
+    store("samples/archive.list", stack::list(&archive));
 }
 
-/// What a program of the gate is given, and what it must print.
-fn store(program: &str, stack: &[u8]) {
-    let program = Path::new(program);
-    fs::write(program.join("stdin"), stack).expect("the input can be written");
-    fs::write(program.join("stdout"), stack::list(stack)).expect("the output can be written");
+fn store(file: &str, bytes: impl AsRef<[u8]>) {
+    fs::write(file, bytes).unwrap_or_else(|error| panic!("{file}: {error}"));
+}
+
+/// The files that stack_list_cases lists, their names as its arguments, and what it must
+/// print: each list under its file's name.
+fn store_cases(cases: &[(&str, Vec<u8>)]) {
+    let mut args = String::new();
+    let mut stdout = String::new();
+    for (name, stack) in cases {
+        store(&format!("crates/stack_list_cases/data/{name}"), stack);
+        args += &format!("{name}\n");
+        stdout += &format!("{name}\n{}", stack::list(stack));
+    }
+    store("crates/stack_list_cases/args", args);
+    store("crates/stack_list_cases/stdout", stdout);
 }
 
 /// A card as an edition writes it.

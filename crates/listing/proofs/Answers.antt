@@ -3,7 +3,6 @@ use mathlib.Core.Path.{_≡_, refl, sym, ap, _∙_}
 use mathlib.Core.Bool.{Bool, true, false, cond}
 use mathlib.Core.List.{List, _++_, append-nil}
 use Prim.Native.Nat.{ℕ, zero, suc, _+_, _-_, _*_, _%_, _≤_, _<_}
-use native.Mathlib.Nat.{add-zero, zero-add}
 use native.Mathlib.Numerals.{add-one}
 use native.Mathlib.Omega.{arith}
 use borrow.Author.Tests.{leb-true, lt-ltb, le-ltb}
@@ -15,16 +14,16 @@ use Rattle.stack.specs.Stack.{cardsIn, wholeStack, cardAt}
 use Rattle.listing.specs.List.{cardLine, firstLine, cardLines, listText}
 use Rattle.listing.specs.declared.Text.{Text}
 use Rattle.listing.specs.declared.Text.the-variants.{Written, Refused}
-use Rattle.listing.specs.Text.{Put, longestList, textAnswer, kept, textOutput}
-use Rattle.listing.proofs.Puts.{put-join, front}
-use Rattle.listing.proofs.Lines.{put-as}
+use Rattle.listing.specs.Text.{longestList, textAnswer, kept, textOutput}
+use Rattle.text_writer.specs.Put.{Put}
+use Rattle.text_writer.proofs.Puts.{put-join, put-as, front}
 use Rattle.listing.proofs.Longest.{card-longest, first-longest}
 
 -- ---- the lines of the cards
 
-pub cards-none : (s : List ℕ) (at : ℕ) (xs : List ℕ) → Put (cardLines s 0) at xs xs at
+pub cards-none : (s : List ℕ) (at : ℕ) (xs : List ℕ) → at ≤ length xs → Put (cardLines s 0) at xs xs at
 unfolding cardLines
-cards-none s at xs = record { holds = refl; ends = sym (add-zero at) }
+cards-none s at xs h = record { holds = refl; ends = omega arith }
 
 -- card i as a part of the stack
 pub part-is : (s : List ℕ) (i : ℕ) → take (32 * i + 32 - 32 * i) (drop (32 * i) s) ≡ cardAt s i
@@ -46,7 +45,7 @@ lines-longest s (suc n) = omega (arith, lines-longest s n, card-longest (cardAt 
 
 -- ---- the whole list
 
-pub few-cards : (bytes : ℕ) → wholeStack bytes ≡ true → cardsIn bytes ≤ 1024
+few-cards : (bytes : ℕ) → wholeStack bytes ≡ true → cardsIn bytes ≤ 1024
 few-cards bytes e = leb-true (cardsIn bytes) 1024 (and-right (eqb (bytes % cardSize) 0) (leb (cardsIn bytes) 1024) e)
 
 module _ (s : List ℕ) where
@@ -86,8 +85,9 @@ module _ (s : List ℕ) where
       → (Written next ≡ textAnswer (listText s) (length out)) × (ys ≡ textOutput (listText s) out)
   unfolding textAnswer textOutput
   written {out} {ys} {next} h p =
-      let e = ap Written (p .ends ∙ zero-add (length (listText s))) ∙ sym (pass (Refused 13) (le-ltb (length out) longestList h) refl) in
-      (e, front (omega (arith, list-longest)) p ∙ ap (λ (a : Text). kept a out (listText s)) e)
+      let f = front (omega (arith, list-longest)) p in
+      let e = ap Written (f .0) ∙ sym (pass (Refused 13) (le-ltb (length out) longestList h) refl) in
+      (e, f .1 ∙ ap (λ (a : Text). kept a out (listText s)) e)
 
   module _ {out ys : List ℕ} {m : ℕ} (h : 42000 ≤ length out) (p : Put (firstLine (length s)) 0 out ys m) where
     pub written-one : wholeStack (length s) ≡ false → (Written m ≡ textAnswer (listText s) (length out)) × (ys ≡ textOutput (listText s) out)

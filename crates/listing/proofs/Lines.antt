@@ -1,15 +1,15 @@
 -- The pieces of a line, and how long they are. Assumes nothing.
-use mathlib.Core.Path.{_≡_, refl, sym, subst}
+use mathlib.Core.Path.{_≡_, refl, sym}
 use mathlib.Core.List.{List}
 use Prim.Native.Nat.{ℕ, _+_}
 use borrow.Author.Tests.{eq-eqb, ne-eqb}
 use lib.ListN.{length, length-append}
 use Rattle.lists.proofs.Tests.{pass, stop}
-use Rattle.listing.specs.Decimal.{decimal}
+use Rattle.text_writer.specs.Decimal.{decimal}
 use Rattle.listing.specs.Words.{space, by, newline, closedWord, communityWord, openWord, accessWord}
 use Rattle.listing.specs.List.{itemText, sizeText, numberLine}
-use Rattle.listing.specs.Text.{Put}
-use Rattle.listing.proofs.Puts.{put-join}
+use Rattle.text_writer.specs.Put.{Put}
+use Rattle.text_writer.proofs.Puts.{put-join}
 
 -- ---- the word of an access
 
@@ -24,9 +24,6 @@ word-community access n e = sym (pass _ (ne-eqb access 2 n) (stop _ (eq-eqb acce
 pub word-closed : (access : ℕ) → (access ≡ 2 → ⊥) → (access ≡ 1 → ⊥) → closedWord ≡ accessWord access
 unfolding accessWord
 word-closed access n m = sym (pass _ (ne-eqb access 2 n) (pass _ (ne-eqb access 1 m) refl))
-
-pub put-as : {p q xs ys : List ℕ} {at next : ℕ} → p ≡ q → Put p at xs ys next → Put q at xs ys next
-put-as {p} {q} {xs} {ys} {at} {next} e a = subst (λ (t : List ℕ). Put t at xs ys next) e a
 
 -- ---- lengths
 

@@ -18,10 +18,10 @@ use Rattle.card_reader.specs.declared.CardReading.the-variants.{Shown, Refused}
 use Rattle.card_reader.specs.Reading.{writerOf, factsIn, frontRight, accessUnknown, endWrong, readCard}
 use Rattle.card_reader.proofs.Shown.{accepted}
 use Rattle.stack.specs.Stack.{cardsIn, wholeStack}
-use Rattle.listing.specs.Decimal.{decimal}
+use Rattle.text_writer.specs.Decimal.{decimal}
 use Rattle.listing.specs.Words.{closedWord, communityWord, openWord, cardsWord, stackRefused, cardRefused, accessWord}
 use Rattle.listing.specs.List.{itemText, sizeText, numberLine, readingLine, cardLine, firstLine}
-use Rattle.listing.proofs.Decimal.{length-decimal}
+use Rattle.text_writer.proofs.Decimal.{length-decimal}
 use Rattle.listing.proofs.Lines.{length-item, length-size, length-line}
 
 -- ---- facts

@@ -8,7 +8,7 @@ use Rattle.card_reader.specs.declared.CardReading.{CardReading}
 use Rattle.card_reader.specs.declared.CardReading.the-variants.{Shown, Refused}
 use Rattle.card_reader.specs.Reading.{readCard}
 use Rattle.stack.specs.Stack.{cardsIn, wholeStack, cardAt}
-use Rattle.listing.specs.Decimal.{decimal}
+use Rattle.text_writer.specs.Decimal.{decimal}
 use Rattle.listing.specs.Words.{space, by, newline, cardsWord, stackRefused, cardRefused, accessWord}
 
 -- the edition at which a stack is listed

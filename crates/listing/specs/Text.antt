@@ -1,11 +1,9 @@
 -- What writing a text into an output answers, and what the output then holds. Assumes nothing.
-use Prim.Native.Nat.{ℕ, _+_}
+use Prim.Native.Nat.{ℕ}
 use mathlib.Core.Bool.{cond}
-use mathlib.Core.Path.{_≡_}
 use mathlib.Core.List.{List, _++_}
 use lib.Dec.{ltb}
 use lib.ListN.{length, drop}
-use lib.Seq.{sets}
 use Rattle.refusal.specs.Refusal.{wrongLineOrOutput}
 use Rattle.listing.specs.declared.Text.{Text}
 use Rattle.listing.specs.declared.Text.the-variants.{Written, Refused}
@@ -14,11 +12,7 @@ use Rattle.listing.specs.declared.Text.the-variants.{Written, Refused}
 abbrev pub longestLine : ℕ
 longestLine = 41
 
--- nor any first line: `stack refused 1` and the newline
-abbrev pub longestFirst : ℕ
-longestFirst = 16
-
--- nor any list: a first line, and 1,024 of cards
+-- nor any list: a first line of at most 16, and 1,024 of cards
 abbrev pub longestList : ℕ
 longestList = 42000
 
@@ -33,8 +27,3 @@ kept (Refused k) before text = before
 
 unfoldable pub textOutput : List ℕ → List ℕ → List ℕ
 textOutput text before = kept (textAnswer text (length before)) before text
-
--- a text was stored from index at on, and the next goes to index next (only contracts of private functions cite it)
-pub record Put (text : List ℕ) (at : ℕ) (before after : List ℕ) (next : ℕ) : Type 0 where
-  pub holds : after ≡ sets before at text
-  pub ends : next ≡ at + length text

@@ -1,17 +1,16 @@
 // The list of a stack, as text (document 01, "The stack list").
 ghost use mathlib.Core.Path.{_≡_};
 ghost use lib.ListN.{length};
-ghost use Prim.Native.Nat.{_+_, _*_, _≤_};
+ghost use Prim.Native.Nat.{_≤_};
 ghost use Rattle.stack.specs.Stack.{cardsIn};
 ghost use Rattle.listing.specs.List.{cardLines, listText};
-ghost use Rattle.listing.specs.Text.{Put, longestLine, textAnswer, textOutput};
+ghost use Rattle.listing.specs.Text.{textAnswer, textOutput};
+ghost use Rattle.text_writer.specs.Put.{Put};
 use card_table::Card;
 use stack::whole;
 
 mod field;
 mod line;
-mod number;
-mod piece;
 
 // How many bytes of text were written, or the refusal's number.
 pub enum Text {
@@ -26,7 +25,7 @@ impl Text {
 
 // Stores the lines of all cards of a stack, one after the other.
 fn put_cards(stack: &[u8], at: usize, out: &mut [u8]) -> usize
-    requires { ⌜ at + longestLine * cardsIn (length (now stack)) ≤ length (now out) ⌝ }
+    requires { ⌜ at ≤ length (now out) ⌝ }
     ensures { λ r. ⌜ Put (cardLines (now (stack .entry)) (cardsIn (length (now (stack .entry))))) at (now (out .entry)) (now (out .exit)) r ⌝ }
 {
     let count = stack.len() / Card::SIZE;

@@ -1,9 +1,7 @@
 // The lines of the list.
-ghost use lib.ListN.{length};
-ghost use Prim.Native.Nat.{_+_, _≤_};
 ghost use Rattle.card_reader.specs.declared.CardReading.the-variants.{Shown};
 ghost use Rattle.listing.specs.List.{readingLine, cardLine, firstLine};
-ghost use Rattle.listing.specs.Text.{Put, longestLine, longestFirst};
+ghost use Rattle.text_writer.specs.Put.{Put};
 use crate::field::put_item;
 use crate::field::put_line;
 use crate::field::put_size;
@@ -18,7 +16,6 @@ const EDITION: u8 = 2;
 
 // Stores the line of a card's facts.
 fn put_facts(facts: Facts, at: usize, out: &mut [u8]) -> usize
-    requires { ⌜ at + length (readingLine (Shown facts)) ≤ length (now out) ⌝ }
     ensures { λ r. ⌜ Put (readingLine (Shown facts)) at (now (out .entry)) (now (out .exit)) r ⌝ }
 {
     let next = put_item(facts.item, facts.access, at, out);
@@ -27,7 +24,6 @@ fn put_facts(facts: Facts, at: usize, out: &mut [u8]) -> usize
 
 // Stores the line of a card.
 pub(crate) fn put_card(card: &[u8], at: usize, out: &mut [u8]) -> usize
-    requires { ⌜ at + longestLine ≤ length (now out) ⌝ }
     ensures { λ r. ⌜ Put (cardLine (now (card .entry))) at (now (out .entry)) (now (out .exit)) r ⌝ }
 {
     let reading = read(card, EDITION);
@@ -39,7 +35,6 @@ pub(crate) fn put_card(card: &[u8], at: usize, out: &mut [u8]) -> usize
 
 // Stores the first line for a stack of so many bytes.
 pub(crate) fn put_first(bytes: usize, out: &mut [u8]) -> usize
-    requires { ⌜ longestFirst ≤ length (now out) ⌝ }
     ensures { λ r. ⌜ Put (firstLine bytes) 0 (now (out .entry)) (now (out .exit)) r ⌝ }
 {
     if whole(bytes) {

@@ -1,4 +1,4 @@
-// The program that lists a stack: standard input to standard output (document 01, "The stack list").
+// What the programs that list a stack share: from an open file to standard output (document 01, "The stack list").
 ghost use mathlib.Core.Path.{_≡_};
 ghost use lib.ListN.{length};
 ghost use Prim.Native.Nat.{_≤_};
@@ -8,7 +8,6 @@ ghost use Rattle.listing_program.specs.Input.{Within};
 ghost use Rattle.listing_program.specs.Ran.{ListedAs, fits, Holds};
 use card_table::Card;
 use libc::STDERR_FILENO;
-use libc::STDIN_FILENO;
 use libc::STDOUT_FILENO;
 use listing::Text;
 
@@ -42,10 +41,10 @@ fn fit(buffer: usize, text: usize) -> bool
 }
 
 // Reads once, and answers how many bytes came to the front of `rest`; none at the input's end.
-fn read_some(rest: &mut [u8]) -> Input
+fn read_some(file: i32, rest: &mut [u8]) -> Input
     ensures { λ r. ⌜ Within r (length (now (rest .exit))) ⌝ }
 {
-    let got = libc::read(STDIN_FILENO, rest);
+    let got = libc::read(file, rest);
     if got < 0 {
         return Input::Failed;
     }
@@ -53,12 +52,12 @@ fn read_some(rest: &mut [u8]) -> Input
 }
 
 // Reads until the buffer is full, the input ends or a read fails. A pipe may give its bytes in any pieces.
-fn read_all(buffer: &mut [u8]) -> Input
+fn read_all(file: i32, buffer: &mut [u8]) -> Input
     ensures { λ r. ⌜ Within r (length (now (buffer .exit))) ⌝ }
 {
     let mut done: usize = 0;
     while done < buffer.len() {
-        let got = read_some(&mut buffer[done..]);
+        let got = read_some(file, &mut buffer[done..]);
         let Input::Bytes(n) = got else {
             return Input::Failed;
         };
@@ -85,30 +84,28 @@ fn print(text: &[u8]) {
     if !io::write_all(STDOUT_FILENO, text) {
         io::write_all(
             STDERR_FILENO,
-            b"stack_list: standard output could not be written\n",
+            b"stack list: standard output could not be written\n",
         );
     }
 }
 
-// Reads a stack into the buffer, puts its list at the front of the text and prints that. Where reading fails, nothing is
-// listed. Refused by 13: a buffer that is not of MOST_READ bytes, or a text that could not hold every list.
-pub fn run(buffer: &mut [u8], text: &mut [u8]) -> Ran
+// Reads a stack from an open file into the buffer, puts its list at the front of the text and prints that. Where reading
+// fails, nothing is listed. Refused by 13: a buffer that is not of MOST_READ bytes, or a text that could not hold every
+// list. The file stays open.
+pub fn run(file: i32, buffer: &mut [u8], text: &mut [u8]) -> Ran
     ensures { λ r. ⌜ Holds r (now (buffer .entry)) (now (buffer .exit)) (now (text .entry)) (now (text .exit)) ⌝ }
 {
     if !fit(buffer.len(), text.len()) {
         return Ran::Refused(refusal::WRONG_LINE_OR_OUTPUT);
     }
-    match read_all(buffer) {
+    match read_all(file, buffer) {
         Input::Bytes(n) => {
             let bytes = text_of(&buffer[..n], text);
             print(&text[..bytes]);
             Ran::Listed(n, bytes)
         }
         Input::Failed => {
-            io::write_all(
-                STDERR_FILENO,
-                b"stack_list: standard input could not be read\n",
-            );
+            io::write_all(STDERR_FILENO, b"stack list: the stack could not be read\n");
             Ran::NotRead
         }
     }

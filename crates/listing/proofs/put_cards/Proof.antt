@@ -1,20 +1,19 @@
 -- `listing::put_cards` meets its contract: the invariant is what was stored so far. Assumes nothing.
 use denote.Ref.{now}
-use Prim.Native.Nat.{_≤_, _-_, _+_, _*_}
+use Prim.Native.Nat.{_≤_, _-_}
 use mathlib.Core.Path.{_≡_, refl, ap, _∙_}
 use native.Mathlib.Omega.{arith}
-use lib.ListN.{length, take, drop}
+use lib.ListN.{length}
 use Rattle.listing.specs.List.{cardLines}
 use Rattle.stack.specs.Stack.{cardsIn}
-use Rattle.listing.specs.Text.{Put}
-use Rattle.listing.proofs.Lines.{put-as}
-use Rattle.listing.proofs.Longest.{card-longest}
+use Rattle.text_writer.specs.Put.{Put}
+use Rattle.text_writer.proofs.Puts.{put-as}
 use Rattle.listing.proofs.Answers.{cards-none, cards-next, part-is}
 use Rattle.listing.proofs.put_cards.Statement.{statement}
 use Rattle.listing.proofs.put_cards.Tie as tie
 
 abbrev Inv-loop : tie.InvT-loop
-Inv-loop stack at out₀ count next₀ i₀ out next i = (i ≤ count) × (length out ≡ length out₀) × Put (cardLines stack i) at out₀ out next × (next ≤ at + 41 * i)
+Inv-loop stack at out₀ count next₀ i₀ out next i = (i ≤ count) × (length out ≡ length out₀) × Put (cardLines stack i) at out₀ out next
 
 abbrev μ-loop : tie.MeasureT-loop
 μ-loop stack at out₀ count next₀ i₀ out next i = count - i
@@ -22,7 +21,7 @@ abbrev μ-loop : tie.MeasureT-loop
 loop-holds : tie.Need-loop-holds Inv-loop μ-loop
 loop-holds c =
     let a = c .before .before .args in
-    (omega arith, refl, cards-none (now (a .stack)) (a .at) (now (a .out)), omega arith)
+    (omega arith, refl, cards-none (now (a .stack)) (a .at) (now (a .out)) (c .before .before .pre))
 
 mul-start : tie.Need-mul-start Inv-loop μ-loop
 mul-start c = omega arith
@@ -40,7 +39,7 @@ part-put-card-end : tie.Need-part-put-card-end Inv-loop μ-loop
 part-put-card-end c = omega arith
 
 put-card-requires : tie.Need-put-card-requires Inv-loop μ-loop
-put-card-requires c κs = omega arith
+put-card-requires c κs = tt
 
 add-i : tie.Need-add-i Inv-loop μ-loop
 add-i c = omega arith
@@ -53,8 +52,7 @@ loop-again c =
     let p = c .before .before in
     let k = p .before .before .before .before .loop in
     let a = p .before .before .before .before .before .before .before .args in
-    let q = p .put-card .ensures in
-    (omega arith, p .put-card .kept .1 .1 .0 ∙ k .inv .1, cards-next (now (a .stack)) (k .i) (part-is (now (a .stack)) (k .i)) (k .inv .2) q, omega (arith, q .ends, card-longest (take (32 * k .i + 32 - 32 * k .i) (drop (32 * k .i) (now (a .stack))))))
+    (omega arith, p .put-card .kept .1 .1 .0 ∙ k .inv .1, cards-next (now (a .stack)) (k .i) (part-is (now (a .stack)) (k .i)) (k .inv .2) (p .put-card .ensures))
 
 same-length : tie.Need-same-length Inv-loop μ-loop
 same-length c = c .before .loop .inv .1

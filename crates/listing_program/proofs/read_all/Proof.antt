@@ -9,13 +9,13 @@ use Rattle.listing_program.proofs.read_all.Statement.{statement}
 use Rattle.listing_program.proofs.read_all.Tie as tie
 
 abbrev Inv-loop : tie.InvT-loop
-Inv-loop buffer₀ done₀ buffer done = (done ≤ length buffer) × (length buffer ≡ length buffer₀)
+Inv-loop file buffer₀ done₀ buffer done = (done ≤ length buffer) × (length buffer ≡ length buffer₀)
 
 abbrev μ-loop : tie.MeasureT-loop
-μ-loop buffer₀ done₀ buffer done = length buffer₀ - done
+μ-loop file buffer₀ done₀ buffer done = length buffer₀ - done
 
 -- no more came than the rest of the buffer holds
-came : (c : tie.Else1 Inv-loop μ-loop) → c .before .before .got .given .0 .0 ≤ length (c .before .before .before .before .before .before .read-some .last .0)
+came : (c : tie.Else1 Inv-loop μ-loop) → c .before .before .got .given .0 .0 ≤ length (c .before .before .before .before .before .before .read-some .last .1 .0)
 came c =
     let g = c .before .before .got .given in
     bytes-within (g .0 .0) (g .1) (c .before .before .before .before .before .before .read-some .ensures)

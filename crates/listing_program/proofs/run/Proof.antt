@@ -24,7 +24,7 @@ long c =
     leb-true longestList (length (a .text .now)) (and-right (eqb (length (a .buffer .now)) mostRead) (leb longestList (length (a .text .now))) (fitted c))
 
 -- no more was read than the buffer holds
-came : (c : tie.After-n) → c .n .given .0 .0 ≤ length (c .before .before .before .before .read-all .last .0)
+came : (c : tie.After-n) → c .n .given .0 .0 ≤ length (c .before .before .before .before .read-all .last .1 .0)
 came c = bytes-within (c .n .given .0 .0) (c .n .given .1) (c .before .before .before .before .read-all .ensures)
 
 fit-requires : tie.Need-fit-requires

@@ -1,21 +1,14 @@
 -- `listing::line::put_facts` meets its contract, piece by piece. Assumes nothing.
-use native.Mathlib.Omega.{arith}
-use lib.ListN.{length-append}
-use Rattle.listing.specs.List.{itemText, sizeText}
-use Rattle.listing.proofs.Puts.{put-join}
+use Rattle.text_writer.proofs.Puts.{put-join}
 use borrow.Author.Needs.{needs}
 use Rattle.listing.proofs.line.put_facts.Statement.{statement}
 use Rattle.listing.proofs.line.put_facts.Tie as tie
 
 put-item-requires : tie.Need-put-item-requires
-put-item-requires c κs =
-    let a = c .before .before .args .facts in
-    omega (arith, length-append (itemText (a .item) (a .access)) (sizeText (a .width) (a .height)))
+put-item-requires c κs = tt
 
 put-size-requires : tie.Need-put-size-requires
-put-size-requires c κs =
-    let a = c .before .before .before .before .before .before .args .facts in
-    omega (arith, length-append (itemText (a .item) (a .access)) (sizeText (a .width) (a .height)))
+put-size-requires c κs = tt
 
 same-length : tie.Need-same-length
 same-length c = search needs

@@ -1,16 +1,16 @@
 -- The cycle of calls {put_number}: the measure is the number. Assumes nothing.
 use borrow.Author.Needs.{needs}
 use native.Mathlib.Omega.{arith}
-use Rattle.listing.proofs.Decimal.{length-one, length-more, number-one, number-more}
+use Rattle.text_writer.proofs.Decimal.{number-one, number-more}
 use Prim.Native.Nat.{ℕ, _≤_, _<_}
 use borrow.Fn.Kinds.{In}
 use borrow.Fn.PlainCycle.{Measures, is, falls, and}
-use Rattle.listing.proofs.number.put_number.Reads as put-number
-use Rattle.listing.proofs.number.put_number.Kinds as put-number-kinds
-use Rattle.listing.proofs.number.+put_number.Lts-put_number as put-number-lts
-use Rattle.listing.proofs.number.put_digit.Reads as put-digit-reads
-use Rattle.listing.proofs.number.+put_number.{statement}
-use Rattle.listing.proofs.number.+put_number.Tie.{close}
+use Rattle.text_writer.proofs.put_number.Reads as put-number
+use Rattle.text_writer.proofs.put_number.Kinds as put-number-kinds
+use Rattle.text_writer.proofs.+put_number.Lts-put_number as put-number-lts
+use Rattle.text_writer.proofs.put_digit.Reads as put-digit-reads
+use Rattle.text_writer.proofs.+put_number.{statement}
+use Rattle.text_writer.proofs.+put_number.Tie.{close}
 
 abbrev μ-put-number : Measures 1 put-number-kinds.ps ℕ
 μ-put-number κs a = a .0
@@ -29,9 +29,7 @@ put-number-put-digit-requires : (t : ℕ) → put-number-lts.Need-put-digit-requ
   put-number-below t,
   put-number.Post,
 ) (put-number-at t) put-number.Post
-put-number-put-digit-requires t c κs =
-    let s = c .before .before .before in
-    omega (arith, length-one (s .args .n) (c .before .if1 .taken), s .pre .1)
+put-number-put-digit-requires t c κs = tt
 
 put-number-same-length : (t : ℕ) → put-number-lts.Need-same-length (
   put-digit-reads.Asked,
@@ -60,8 +58,7 @@ put-number-put-number-requires : (t : ℕ) → put-number-lts.Need-put-number-re
 ) (put-number-at t) put-number.Post
 put-number-put-number-requires t c κs =
     let s = c .before .before .before in
-    let l : 10 ≤ s .args .n = omega arith in
-    (omega (arith, s .pre .0), omega (arith, s .pre .1, length-more (s .args .n) l (omega arith)))
+    (omega (arith, s .pre .0), s .pre .1)
 
 put-number-put-digit-requires-2 : (t : ℕ) → put-number-lts.Need-put-digit-requires-2 (
   put-digit-reads.Asked,
@@ -69,11 +66,7 @@ put-number-put-digit-requires-2 : (t : ℕ) → put-number-lts.Need-put-digit-re
   put-number-below t,
   put-number.Post,
 ) (put-number-at t) put-number.Post
-put-number-put-digit-requires-2 t c κs =
-    let p = c .before .before .before in
-    let s = p .before .before .before .before in
-    let l : 10 ≤ s .args .n = omega (arith, p .before .before .if1 .left) in
-    omega (arith, s .pre .1, p .put-number .ensures .ends, p .put-number .kept .1 .1 .0, length-more (s .args .n) l (omega arith))
+put-number-put-digit-requires-2 t c κs = tt
 
 put-number-same-length-2 : (t : ℕ) → put-number-lts.Need-same-length-2 (
   put-digit-reads.Asked,

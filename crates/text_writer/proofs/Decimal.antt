@@ -1,5 +1,5 @@
 -- The digits of a number: all but the last are those of a tenth of it. Assumes nothing.
-use mathlib.Core.Path.{_≡_, refl, sym, ap, _∙_, subst}
+use mathlib.Core.Path.{_≡_, refl, sym, ap, _∙_}
 use mathlib.Core.Bool.{Bool, true, false}
 use mathlib.Core.List.{List, [], _∷_, _++_}
 use Prim.Native.Nat.{ℕ, zero, suc, _+_, _/_, _%_, _^_, _≤_, _<_}
@@ -9,9 +9,9 @@ use borrow.Author.Tests.{lt-ltb, le-ltb}
 use lib.Dec.{ltb}
 use lib.ListN.{length, length-append}
 use Rattle.lists.proofs.Tests.{pass, stop}
-use Rattle.listing.specs.Decimal.{digit, digits, decimal}
-use Rattle.listing.specs.Text.{Put}
-use Rattle.listing.proofs.Puts.{put-join}
+use Rattle.text_writer.specs.Decimal.{digit, digits, decimal}
+use Rattle.text_writer.specs.Put.{Put}
+use Rattle.text_writer.proofs.Puts.{put-join, put-as}
 
 pub one : (k n : ℕ) → ltb n 10 ≡ true → digits (suc k) n ≡ digit n ∷ []
 unfolding digits
@@ -39,13 +39,13 @@ more (suc k) n h =
     ∙ ap (λ (front : List ℕ). front ++ (digit (n % 10) ∷ [])) (more k (n / 10) (tenth (suc k) n h))
     ∙ sym (step (suc k) n e))
 
-pub decimal-one : (n : ℕ) → n < 10 → digit (n % 10) ∷ [] ≡ decimal n
+decimal-one : (n : ℕ) → n < 10 → digit (n % 10) ∷ [] ≡ decimal n
 unfolding decimal
 decimal-one n h =
     let e : n % 10 ≡ n = omega arith in
     ap (λ (d : ℕ). digit d ∷ []) e ∙ sym (one 19 n (lt-ltb n 10 h))
 
-pub decimal-more : (n : ℕ) → 10 ≤ n → n < 10 ^ 20 → decimal (n / 10) ++ (digit (n % 10) ∷ []) ≡ decimal n
+decimal-more : (n : ℕ) → 10 ≤ n → n < 10 ^ 20 → decimal (n / 10) ++ (digit (n % 10) ∷ []) ≡ decimal n
 unfolding decimal
 decimal-more n l h = sym (step 19 n (le-ltb n 10 l) ∙ ap (λ (front : List ℕ). front ++ (digit (n % 10) ∷ [])) (sym (more 18 (n / 10) (tenth 19 n h))))
 
@@ -66,14 +66,7 @@ length-decimal j n h = length-digits 20 j n h
 -- ---- stored digit by digit
 
 pub number-one : (n : ℕ) {at next : ℕ} {xs ys : List ℕ} → n < 10 → Put (digit (n % 10) ∷ []) at xs ys next → Put (decimal n) at xs ys next
-number-one n {at} {next} {xs} {ys} h a = subst (λ (p : List ℕ). Put p at xs ys next) (decimal-one n h) a
+number-one n h a = put-as (decimal-one n h) a
 
 pub number-more : (n : ℕ) {at m next : ℕ} {xs ys zs : List ℕ} → 10 ≤ n → n < 10 ^ 20 → Put (decimal (n / 10)) at xs ys m → Put (digit (n % 10) ∷ []) m ys zs next → Put (decimal n) at xs zs next
-number-more n {at} {m} {next} {xs} {ys} {zs} l h a b = subst (λ (p : List ℕ). Put p at xs zs next) (decimal-more n l h) (put-join a b)
-
--- how many digits there are
-pub length-more : (n : ℕ) → 10 ≤ n → n < 10 ^ 20 → length (decimal n) ≡ length (decimal (n / 10)) + 1
-length-more n l h = sym (ap length (decimal-more n l h)) ∙ length-append (decimal (n / 10)) (digit (n % 10) ∷ [])
-
-pub length-one : (n : ℕ) → n < 10 → length (decimal n) ≡ 1
-length-one n h = sym (ap length (decimal-one n h))
+number-more n l h a b = put-as (decimal-more n l h) (put-join a b)
