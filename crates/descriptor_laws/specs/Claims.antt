@@ -7,6 +7,7 @@ use lib.ListN.{length}
 use Rattle.lists.specs.Bytes.{areBytes}
 use Rattle.layout.specs.declared.Layout.{Layout}
 use Rattle.layout.specs.Layout.{validLayout}
+use Rattle.descriptor_samples.specs.Size.{descriptorSize}
 use Rattle.descriptor_reader.specs.declared.DescriptorReading.the-variants.{Accepted}
 use Rattle.refusal.specs.declared.Written.the-variants.{Done}
 use Rattle.descriptor_reader.specs.Reading.{readDescriptor}
@@ -31,7 +32,7 @@ ReadsWhatWasWritten = (l : Layout) (out : List ℕ) → writeAnswer l (length ou
 -- writing a layout that was read leaves the bytes that were read
 abbrev pub WritesWhatWasRead : Type 0
 WritesWhatWasRead =
-    (b : List ℕ) (l : Layout) (out : List ℕ) → Bytes b → readDescriptor b ≡ Accepted l → length out ≡ 76
+    (b : List ℕ) (l : Layout) (out : List ℕ) → Bytes b → readDescriptor b ≡ Accepted l → length out ≡ descriptorSize
     → (writeAnswer l (length out) ≡ Done) × (writeOutput l out ≡ b)
 
 -- two valid layouts with one descriptor are one layout

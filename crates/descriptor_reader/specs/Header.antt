@@ -5,6 +5,7 @@ use mathlib.Core.List.{List}
 use lib.Dec.{eqb}
 use lib.ListN.{getD}
 use Rattle.lists.specs.Bytes.{numberAt}
+use Rattle.descriptor_samples.specs.Size.{descriptorSize}
 use Rattle.layout.specs.Layout.{modelKnown, primariesKnown, bytesKnown}
 
 -- the k bytes from place i on are zero
@@ -14,7 +15,7 @@ zeros b i (suc k) = zeros b i k && eqb (getD b (i + k) 0) 0
 
 -- bytes 0 to 11 are right
 unfoldable pub headerRight : List ℕ → Bool
-headerRight b = eqb (numberAt b 0 4) 76 && eqb (numberAt b 4 4) 0 && eqb (numberAt b 8 2) 1 && eqb (numberAt b 10 2) 72
+headerRight b = eqb (numberAt b 0 4) descriptorSize && eqb (numberAt b 4 4) 0 && eqb (numberAt b 8 2) 1 && eqb (numberAt b 10 2) 72
 
 -- bytes 12 to 15
 unfoldable pub colorRight : List ℕ → Bool

@@ -6,6 +6,7 @@ use lib.Dec.{eqb}
 use lib.ListN.{length, getD}
 use Rattle.layout.specs.declared.Layout.{Layout}
 use Rattle.refusal.specs.Refusal.{wrongLength, wrongHeader, wrongColor, wrongPlanes, wrongSample, noRange}
+use Rattle.descriptor_samples.specs.Size.{descriptorSize}
 use Rattle.descriptor_samples.specs.declared.samples.Samples.{Samples}
 use Rattle.descriptor_samples.specs.Samples.{samplesRight, rangeIn}
 use Rattle.descriptor_reader.specs.declared.DescriptorReading.{DescriptorReading}
@@ -38,7 +39,7 @@ readSamples model primaries bytes s =
 -- what reading answers, by the rows 1 to 6
 unfoldable pub readDescriptor : List ℕ → DescriptorReading
 readDescriptor b =
-    cond (not (eqb (length b) 76)) (Refused wrongLength)
+    cond (not (eqb (length b) descriptorSize)) (Refused wrongLength)
     (cond (not (headerRight b)) (Refused wrongHeader)
     (cond (not (colorRight b)) (Refused wrongColor)
     (cond (not (planesRight b)) (Refused wrongPlanes)

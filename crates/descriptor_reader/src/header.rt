@@ -2,13 +2,14 @@
 ghost use mathlib.Core.Path.{_≡_};
 ghost use lib.ListN.{length};
 ghost use Prim.Native.Nat.{_+_, _≤_};
+ghost use Rattle.descriptor_samples.specs.Size.{descriptorSize};
 ghost use Rattle.descriptor_reader.specs.Header.{zeros, headerRight, colorRight, planesRight};
 use crate::number::number2;
 use crate::number::number4;
 
 // Whether bytes 0 to 11 are right: total size, vendor and type, version, block size.
 pub(crate) fn header_right(bytes: &[u8]) -> bool
-    requires { ⌜ length (now bytes) ≡ 76 ⌝ }
+    requires { ⌜ length (now bytes) ≡ descriptorSize ⌝ }
     ensures { λ r. ⌜ r ≡ headerRight (now (bytes .entry)) ⌝ }
 {
     (number4(bytes, 0) == 76)
@@ -19,7 +20,7 @@ pub(crate) fn header_right(bytes: &[u8]) -> bool
 
 // Whether bytes 12 to 15 are: model, primaries, transfer, flags.
 pub(crate) fn color_right(bytes: &[u8]) -> bool
-    requires { ⌜ length (now bytes) ≡ 76 ⌝ }
+    requires { ⌜ length (now bytes) ≡ descriptorSize ⌝ }
     ensures { λ r. ⌜ r ≡ colorRight (now (bytes .entry)) ⌝ }
 {
     layout::model_known(bytes[12])
@@ -44,7 +45,7 @@ fn all_zero(bytes: &[u8], i: usize, k: usize) -> bool
 
 // Whether bytes 16 to 27 are: zeros, but for the bytes a point.
 pub(crate) fn planes_right(bytes: &[u8]) -> bool
-    requires { ⌜ length (now bytes) ≡ 76 ⌝ }
+    requires { ⌜ length (now bytes) ≡ descriptorSize ⌝ }
     ensures { λ r. ⌜ r ≡ planesRight (now (bytes .entry)) ⌝ }
 {
     let size = bytes[20];

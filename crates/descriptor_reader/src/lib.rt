@@ -1,6 +1,7 @@
 // A descriptor read: 76 bytes that tell a layout (document 01, "Descriptor").
 ghost use mathlib.Core.Path.{_≡_};
 ghost use Rattle.descriptor_reader.specs.Reading.{readDescriptor};
+use descriptor_samples::DESCRIPTOR_SIZE;
 use layout::Layout;
 
 mod header;
@@ -17,7 +18,7 @@ pub enum DescriptorReading {
 pub fn read(bytes: &[u8]) -> DescriptorReading
     ensures answer { λ r. ⌜ r ≡ readDescriptor (now (bytes .entry)) ⌝ }
 {
-    if bytes.len() != 76 {
+    if bytes.len() != DESCRIPTOR_SIZE {
         return DescriptorReading::Refused(refusal::WRONG_LENGTH);
     }
     if !header::header_right(bytes) {
@@ -29,5 +30,5 @@ pub fn read(bytes: &[u8]) -> DescriptorReading
     if !header::planes_right(bytes) {
         return DescriptorReading::Refused(refusal::WRONG_PLANES);
     }
-    sample::told(bytes[12], bytes[13], bytes[20], sample::samples_in(bytes))
+    sample::read_samples(bytes[12], bytes[13], bytes[20], sample::samples_in(bytes))
 }

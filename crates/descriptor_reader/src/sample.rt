@@ -4,6 +4,7 @@ ghost use mathlib.Core.Bool.{true};
 ghost use lib.ListN.{length};
 ghost use Prim.Native.Nat.{_+_, _≤_};
 ghost use Rattle.layout.specs.Layout.{bytesKnown};
+ghost use Rattle.descriptor_samples.specs.Size.{descriptorSize};
 ghost use Rattle.descriptor_samples.specs.Samples.{samplesRight};
 ghost use Rattle.descriptor_reader.specs.Sample.{sampleIn, samplesIn, offsetIn};
 ghost use Rattle.descriptor_reader.specs.Reading.{layoutFrom, readSamples};
@@ -32,7 +33,7 @@ fn sample_in(bytes: &[u8], i: usize) -> Sample
 
 // The samples of a descriptor.
 pub(crate) fn samples_in(bytes: &[u8]) -> Samples
-    requires { ⌜ length (now bytes) ≡ 76 ⌝ }
+    requires { ⌜ length (now bytes) ≡ descriptorSize ⌝ }
     ensures { λ r. ⌜ r ≡ samplesIn (now (bytes .entry)) ⌝ }
 {
     Samples {
@@ -75,7 +76,12 @@ fn layout_from(model: u8, primaries: u8, range: u8, bytes: u8, samples: Samples)
 }
 
 // The layout that the samples tell with what stands before them. Refused: 5, then 6.
-pub(crate) fn told(model: u8, primaries: u8, bytes: u8, samples: Samples) -> DescriptorReading
+pub(crate) fn read_samples(
+    model: u8,
+    primaries: u8,
+    bytes: u8,
+    samples: Samples,
+) -> DescriptorReading
     requires { ⌜ bytesKnown bytes ≡ true ⌝ }
     ensures { λ r. ⌜ r ≡ readSamples model primaries bytes samples ⌝ }
 {

@@ -6,3 +6,6 @@ mod samples;
 pub use limits::Limits;
 pub use sample::Sample;
 pub use samples::Samples;
+
+// The bytes of a descriptor.
+pub const DESCRIPTOR_SIZE: usize = 76;

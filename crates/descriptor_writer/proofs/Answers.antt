@@ -5,12 +5,14 @@ use mathlib.Core.List.{List}
 use Prim.Native.Nat.{ℕ}
 use lib.Dec.{eqb}
 use lib.ListN.{length}
+use Rattle.lists.specs.Lists.{newOrKept}
 use Rattle.lists.proofs.Tests.{pass, stop}
 use Rattle.layout.specs.declared.Layout.{Layout}
 use Rattle.layout.specs.Layout.{validLayout}
 use Rattle.refusal.specs.declared.Written.{Written}
 use Rattle.refusal.specs.declared.Written.the-variants.{Done, Refused}
-use Rattle.descriptor_writer.specs.Writing.{descriptorBytes, writeAnswer, kept, writeOutput}
+use Rattle.refusal.specs.Written.{accepted}
+use Rattle.descriptor_writer.specs.Writing.{descriptorBytes, writeAnswer, writeOutput}
 
 module _ (l : Layout) (out : List ℕ) where
   pub refused-9 : validLayout l ≡ false → Refused 9 ≡ writeAnswer l (length out)
@@ -28,8 +30,8 @@ module _ (l : Layout) (out : List ℕ) where
   -- what the output then holds
   pub unchanged : (k : ℕ) → Refused k ≡ writeAnswer l (length out) → out ≡ writeOutput l out
   unfolding writeOutput
-  unchanged k e = ap (λ (a : Written). kept a out (descriptorBytes l)) e
+  unchanged k e = ap (λ (a : Written). newOrKept (accepted a) (descriptorBytes l) out) e
 
   pub changed : (bytes : List ℕ) → Done ≡ writeAnswer l (length out) → bytes ≡ descriptorBytes l → bytes ≡ writeOutput l out
   unfolding writeOutput
-  changed bytes e q = q ∙ ap (λ (a : Written). kept a out (descriptorBytes l)) e
+  changed bytes e q = q ∙ ap (λ (a : Written). newOrKept (accepted a) (descriptorBytes l) out) e

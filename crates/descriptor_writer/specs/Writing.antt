@@ -3,20 +3,22 @@ use Prim.Native.Nat.{ℕ}
 use mathlib.Core.Bool.{not, cond}
 use mathlib.Core.List.{List, _∷_, _++_}
 use lib.Dec.{eqb}
-use lib.ListN.{length, getD, replicate}
-use Rattle.lists.specs.Lists.{written}
+use lib.ListN.{length, replicate}
+use Rattle.lists.specs.Lists.{newOrKept}
 use Rattle.lists.specs.Bytes.{bytesOf}
 use Rattle.layout.specs.declared.Layout.{Layout}
 use Rattle.layout.specs.Layout.{validLayout}
 use Rattle.refusal.specs.Refusal.{outside, wrongLineOrOutput}
 use Rattle.refusal.specs.declared.Written.{Written}
 use Rattle.refusal.specs.declared.Written.the-variants.{Done, Refused}
+use Rattle.refusal.specs.Written.{accepted}
+use Rattle.descriptor_samples.specs.Size.{descriptorSize}
 use Rattle.descriptor_writer.specs.Sample.{sampleBytes, samplesOf}
 
 -- bytes 0 to 27: at 0 the total size, at 4 vendor and type, at 8 the version, at 10 the block size; at 12 model, primaries, transfer (ITU) and flags; at 16 zeros, at 20 the bytes a point, and zeros
 unfoldable pub frontBytes : Layout → List ℕ
 frontBytes l =
-    bytesOf 76 4
+    bytesOf descriptorSize 4
     ++ (bytesOf 0 4
     ++ (bytesOf 1 2
     ++ (bytesOf 72 2
@@ -34,22 +36,13 @@ samplesBytes l =
 unfoldable pub descriptorBytes : Layout → List ℕ
 descriptorBytes l = frontBytes l ++ samplesBytes l
 
--- what storing a part from index at on leaves
-abbrev pub stored : List ℕ → ℕ → List ℕ → List ℕ
-stored out at part = written out at (λ k. getD part k 0) (length part)
-
 -- writing into so many bytes: 9, then 13
 unfoldable pub writeAnswer : Layout → ℕ → Written
 writeAnswer l bytes =
     cond (not (validLayout l)) (Refused outside)
-    (cond (not (eqb bytes 76)) (Refused wrongLineOrOutput)
+    (cond (not (eqb bytes descriptorSize)) (Refused wrongLineOrOutput)
     Done)
-
--- an output afterwards: what is written, or what was there before where it is refused
-abbrev pub kept : Written → List ℕ → List ℕ → List ℕ
-kept Done before after = after
-kept (Refused k) before after = before
 
 -- the bytes after writing
 unfoldable pub writeOutput : Layout → List ℕ → List ℕ
-writeOutput l before = kept (writeAnswer l (length before)) before (descriptorBytes l)
+writeOutput l before = newOrKept (accepted (writeAnswer l (length before))) (descriptorBytes l) before

@@ -2,11 +2,12 @@
 ghost use mathlib.Core.Path.{_≡_};
 ghost use lib.ListN.{length};
 ghost use Rattle.descriptor_writer.specs.Writing.{writeAnswer, writeOutput};
+use descriptor_samples::DESCRIPTOR_SIZE;
 use layout::Layout;
 use refusal::Written;
 
-mod bytes;
 mod field;
+mod parts;
 mod store;
 
 pub use field::Field;
@@ -20,10 +21,10 @@ pub fn write(layout: Layout, out: &mut [u8]) -> Written
     if !layout.valid() {
         return Written::Refused(refusal::OUTSIDE);
     }
-    if out.len() != 76 {
+    if out.len() != DESCRIPTOR_SIZE {
         return Written::Refused(refusal::WRONG_LINE_OR_OUTPUT);
     }
-    let header = bytes::front_bytes(layout);
+    let header = parts::front_bytes(layout);
     store::put(&header, 0, out);
     store::put_samples(layout, out);
     Written::Done

@@ -60,20 +60,20 @@ returns-4 c =
     let l = h .before .before in
     refused-4 (given l) (long l) (header h) (color k) (sym (c .before .planes-right .ensures) ∙ not-true (c .before .planes-right .result) (c .if4 .taken))
 
-shared-slice-read-told : tie.Need-shared-slice-read-told
-shared-slice-read-told c = search needs
+shared-slice-read-read-samples : tie.Need-shared-slice-read-read-samples
+shared-slice-read-read-samples c = search needs
 
-shared-slice-read-told-2 : tie.Need-shared-slice-read-told-2
-shared-slice-read-told-2 c = search needs
+shared-slice-read-read-samples-2 : tie.Need-shared-slice-read-read-samples-2
+shared-slice-read-read-samples-2 c = search needs
 
-shared-slice-read-told-3 : tie.Need-shared-slice-read-told-3
-shared-slice-read-told-3 c = search needs
+shared-slice-read-read-samples-3 : tie.Need-shared-slice-read-read-samples-3
+shared-slice-read-read-samples-3 c = search needs
 
 samples-in-requires : tie.Need-samples-in-requires
 samples-in-requires c κs = search needs
 
-told-requires : tie.Need-told-requires
-told-requires c κs =
+read-samples-requires : tie.Need-read-samples-requires
+read-samples-requires c κs =
     let p = c .before .before .before .before in
     planes-bytes (given (p .before .before .before .before .before .before)) (planes p)
 
@@ -84,7 +84,7 @@ returns-5 c =
     let h = k .before .before in
     let l = h .before .before in
     let b = given l in
-    c .told .ensures ∙ ap (readSamples (getD b 12 0) (getD b 13 0) (getD b 20 0)) (c .before .samples-in .ensures)
+    c .read-samples .ensures ∙ ap (readSamples (getD b 12 0) (getD b 13 0) (getD b 20 0)) (c .before .samples-in .ensures)
     ∙ samples-decide b (long l) (header h) (color k) (planes p)
 
 pub read-spec : {M : Type 1} → statement M
@@ -98,9 +98,9 @@ read-spec =
     returns-3
     planes-right-requires
     returns-4
-    shared-slice-read-told
-    shared-slice-read-told-2
-    shared-slice-read-told-3
+    shared-slice-read-read-samples
+    shared-slice-read-read-samples-2
+    shared-slice-read-read-samples-3
     samples-in-requires
-    told-requires
+    read-samples-requires
     returns-5)

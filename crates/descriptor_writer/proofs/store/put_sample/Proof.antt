@@ -3,7 +3,7 @@ use mathlib.Core.Path.{ap, _∙_}
 use mathlib.Core.List.{List}
 use Prim.Native.Nat.{ℕ}
 use denote.Ref.{now}
-use Rattle.descriptor_writer.specs.Writing.{stored}
+use lib.Seq.{sets}
 use borrow.Author.Needs.{needs}
 use Rattle.descriptor_writer.proofs.store.put_sample.Statement.{statement}
 use Rattle.descriptor_writer.proofs.store.put_sample.Tie as tie
@@ -25,7 +25,7 @@ returns c =
     let p = c .before .before in
     let b = p .before .before .before in
     let a = b .before .before .args in
-    p .put .ensures ∙ ap (λ (part : List ℕ). stored (now (a .out)) (a .at) part) (b .sample-bytes .ensures)
+    p .put .ensures ∙ ap (λ (part : List ℕ). sets (now (a .out)) (a .at) part) (b .sample-bytes .ensures)
 
 pub put-sample-spec : {M : Type 1} → statement M
 put-sample-spec =

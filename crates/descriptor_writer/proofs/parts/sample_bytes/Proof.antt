@@ -1,4 +1,4 @@
--- `descriptor_writer::bytes::sample_bytes` meets its contract: the numbers are small, so the literal is the definition's list. Assumes nothing.
+-- `descriptor_writer::parts::sample_bytes` meets its contract: the numbers are small, so the literal is the definition's list. Assumes nothing.
 use mathlib.Core.Path.{_≡_, ap, _∙_}
 use Prim.Native.Nat.{_-_, _<_}
 use native.Mathlib.Omega.{arith}
@@ -8,8 +8,8 @@ use Rattle.descriptor_samples.specs.Limits.{limitsOf}
 use Rattle.descriptor_writer.specs.Sample.{sampleBytes, sampleOf}
 use Rattle.descriptor_writer.proofs.Small.{small-sample}
 use borrow.Author.Needs.{needs}
-use Rattle.descriptor_writer.proofs.bytes.sample_bytes.Statement.{statement}
-use Rattle.descriptor_writer.proofs.bytes.sample_bytes.Tie as tie
+use Rattle.descriptor_writer.proofs.parts.sample_bytes.Statement.{statement}
+use Rattle.descriptor_writer.proofs.parts.sample_bytes.Tie as tie
 
 of-requires : tie.Need-of-requires
 of-requires c κs = search needs

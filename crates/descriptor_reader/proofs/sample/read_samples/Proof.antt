@@ -1,4 +1,4 @@
--- `descriptor_reader::sample::told` meets its contract, row by row. Assumes nothing.
+-- `descriptor_reader::sample::read_samples` meets its contract, row by row. Assumes nothing.
 use mathlib.Core.Path.{_≡_, sym, ap, _∙_, subst}
 use mathlib.Core.Bool.{true}
 use Prim.Native.Nat.{ℕ, _+_}
@@ -10,8 +10,8 @@ use Rattle.descriptor_samples.specs.Samples.{samplesRight, rangeIn}
 use Rattle.descriptor_reader.proofs.Right.{right-says, length-lt}
 use Rattle.descriptor_reader.proofs.Answers.{refused-5, refused-6, accepted-as}
 use borrow.Author.Needs.{needs}
-use Rattle.descriptor_reader.proofs.sample.told.Statement.{statement}
-use Rattle.descriptor_reader.proofs.sample.told.Tie as tie
+use Rattle.descriptor_reader.proofs.sample.read_samples.Statement.{statement}
+use Rattle.descriptor_reader.proofs.sample.read_samples.Tie as tie
 
 right : (c : tie.Else1) → let a = c .before .before .args in samplesRight (a .bytes) (a .samples) ≡ true
 right c = sym (c .before .right .ensures) ∙ not-false (c .before .right .result) (c .if1 .left)
@@ -57,8 +57,8 @@ returns-3 c =
     accepted-as (a .model) (a .primaries) (a .bytes) (a .samples) (right (e .before .before .before)) (e .before .range .result) (c .layout-from .result)
     (ranged (e .before)) (ne-eqb (e .before .range .result) 0 (e .if2 .left)) (c .layout-from .ensures)
 
-pub told-spec : {M : Type 1} → statement M
-told-spec =
+pub read-samples-spec : {M : Type 1} → statement M
+read-samples-spec =
     tie.close
     (tie.spec
     right-requires
