@@ -1,4 +1,4 @@
-mod Table
+pub mod Table
 mod Sizes
 pub mod Whole
 mod Lines

@@ -1,24 +1,39 @@
 -- The claims of specs/Claims.antt. Assumes nothing.
-use mathlib.Core.Path.{refl}
-use mathlib.Core.Bool.{Bool, true, false, cond}
-use lib.Dec.{eqb}
+use mathlib.Core.Path.{_≡_, refl}
+use mathlib.Core.Bool.{Bool, true, _&&_}
+use Prim.Native.Nat.{_+_}
+use borrow.Author.Tests.{leb-true, eqb-true}
+use lib.Dec.{leb, eqb}
 use native.Mathlib.Omega.{arith}
 use Rattle.color_model.specs.declared.weights.Weights.{Weights}
+use Rattle.lists.specs.Lists.{every}
+use Rattle.lists.proofs.Tests.{and-left, and-right, and3}
+use Rattle.color_model.specs.Weights.{weightRows, weightsOf, greenOf}
 use Rattle.color_model.specs.Equations.{lumaOf, chromaOf, primaryOf, greenFrom}
+use Rattle.color_model.proofs.Table.{each-row}
 use Rattle.color_model.proofs.Whole.{luma-den, chroma-den, primary-den, green-den}
-use Rattle.color_model_laws.specs.Claims.{Shares, RowsRight, Inverts, InvertsBack, MarkedRight}
+use Rattle.color_model_laws.specs.Claims.{RowsRight, Inverts, InvertsBack, MarkedRight}
 use Rattle.color_model_laws.specs.Marked.{marked, given, stated}
 use Rattle.color_model_laws.proofs.Inverse.{rgb-back, ycbcr-back}
 
--- what holds of three rows holds of every choice of one
-by-row : (P : Weights → Type 0) (x y z : Weights) (a b c : Bool) → P x → P y → P z → P (cond a x (cond b y (cond c y z)))
-by-row P x y z true b c f g h = f
-by-row P x y z false true c f g h = g
-by-row P x y z false false true f g h = g
-by-row P x y z false false false f g h = h
+-- three weights above 0, and together they are 1: of each row, by one test of the table
+abbrev shares : Weights → Bool
+shares w = leb 1 (w .red) && leb 1 (greenOf w) && leb 1 (w .blue) && eqb (w .red + greenOf w + w .blue) 10000
+
+all-share : every shares weightRows ≡ true
+unfolding every
+all-share = refl
 
 pub rows-right : RowsRight
-rows-right primaries e = by-row Shares _ _ _ (eqb primaries 1) (eqb primaries 2) (eqb primaries 3) (omega arith) (omega arith) (omega arith)
+rows-right primaries e =
+    let w = weightsOf primaries in
+    let h = each-row shares all-share primaries e in
+    let a = leb 1 (w .red) in
+    let b = leb 1 (greenOf w) in
+    let c = leb 1 (w .blue) in
+    let all = eqb (w .red + greenOf w + w .blue) 10000 in
+    let p = and3 a b c (and-left (a && b && c) all h) in
+    (leb-true 1 (w .red) (p .0), leb-true 1 (greenOf w) (p .1), leb-true 1 (w .blue) (p .2), eqb-true (w .red + greenOf w + w .blue) 10000 (and-right (a && b && c) all h))
 
 pub inverts : Inverts
 inverts w r g b K R G B =
