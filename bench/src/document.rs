@@ -43,7 +43,7 @@ Written by `bench/run --write`, from one run; `bench/run` alone prints the same 
 - *growth*: the most by which the cost a point rises from one of these lengths to any longer one, on any of the row's
   inputs: under 1 it falls everywhere. The run fails above {MOST_GROWTH}.
 - *stack*: the most bytes of stack that a call used, on accepted and refused inputs; the return address and the few
-  frames between the bench and the entry are counted too. The run fails above {limit}.
+  frames between the benchmark and the entry are counted too. The run fails above {limit}.
 "
     )
 }
