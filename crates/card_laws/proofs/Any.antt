@@ -5,14 +5,14 @@ use mathlib.Core.Logic.{_⊎_, inl, inr, ⊎-elim}
 use mathlib.Core.List.{List}
 use Prim.Native.Nat.{ℕ, _≤_}
 use native.Mathlib.Omega.{arith}
-use borrow.Author.Tests.{eqb-true, leb-true}
+use borrow.Author.Tests.{eqb-true}
 use lib.Dec.{eqb, leb, ltb}
 use lib.ListN.{getD}
 use Rattle.lists.proofs.Tests.{and3}
 use Rattle.card_table.specs.declared.facts.Facts.{Facts}
 use Rattle.card_table.specs.Edition.{hasAccess, leastEdition}
 use Rattle.card_table.specs.Facts.{closed, accessKnown, factsValid}
-use Rattle.card_reader.specs.Reading.{writerOf, accessOf, layoutIn, factsIn, frontRight}
+use Rattle.card_reader.specs.Reading.{writerOf, accessOf, factsIn, frontRight}
 use Rattle.card_reader.proofs.Shown.{Accepted}
 use Rattle.card_writer.specs.Writing.{unwritable, validAt}
 
@@ -31,18 +31,13 @@ unseen : (w x e : ℕ) → hasAccess e ≡ false → accessOf w x e ≡ closed
 unfolding accessOf
 unseen w x e h = rw (h, and-false (hasAccess w))
 
--- and from one
-unsaid : (w x e : ℕ) → hasAccess w ≡ false → accessOf w x e ≡ closed
-unfolding accessOf
-unsaid w x e h = rw h
-
 -- else as it stands
-stands : (w x e : ℕ) → (accessOf w x e ≡ closed) ⊎ ((accessOf w x e ≡ x) × (2 ≤ e) × (2 ≤ w))
+stands : (w x e : ℕ) → (accessOf w x e ≡ closed) ⊎ ((accessOf w x e ≡ x) × (hasAccess e ≡ true) × (hasAccess w ≡ true))
 unfolding accessOf
 stands w x e = go (hasAccess w) (hasAccess e) (accessKnown x) refl refl
   where
-    go : (t u k : Bool) → hasAccess w ≡ t → hasAccess e ≡ u → (cond (t && u && k) x closed ≡ closed) ⊎ ((cond (t && u && k) x closed ≡ x) × (2 ≤ e) × (2 ≤ w))
-    go true true true p q = inr (refl, leb-true 2 e q, leb-true 2 w p)
+    go : (t u k : Bool) → hasAccess w ≡ t → hasAccess e ≡ u → (cond (t && u && k) x closed ≡ closed) ⊎ ((cond (t && u && k) x closed ≡ x) × (hasAccess e ≡ true) × (hasAccess w ≡ true))
+    go true true true p q = inr (refl, q, p)
     go true true false p q = inl refl
     go true false k p q = inl refl
     go false u k p q = inl refl
@@ -61,12 +56,12 @@ front-says : (s t u x y : Bool) → s && t && u && x && y ≡ true → (s ≡ tr
 front-says s t u x y h = let p = and3 s t u (and3 (s && t && u) x y h .0) in (p .0, p .2)
 
 module _ (b : List ℕ) (e : ℕ) (f : Facts) (a : Accepted b e f) where
-  says : (eqb (getD b 0 0) (leastEdition (layoutIn b)) ≡ true) × (factsValid (factsIn b e) ≡ true)
+  says : (eqb (getD b 0 0) (leastEdition (factsIn b e)) ≡ true) × (factsValid (factsIn b e) ≡ true)
   unfolding frontRight factsIn
-  says = front-says (eqb (getD b 0 0) (leastEdition (layoutIn b))) (leb (getD b 0 0) (writerOf b)) (factsValid (factsIn b e)) (eqb (getD b 7 0) 0) (eqb (getD b 11 0) 0) (a .front)
+  says = front-says (eqb (getD b 0 0) (leastEdition (factsIn b e))) (leb (getD b 0 0) (writerOf b)) (factsValid (factsIn b e)) (eqb (getD b 7 0) 0) (eqb (getD b 11 0) 0) (a .front)
 
-  readable : ltb e (leastEdition (layoutIn b)) ≡ false
-  readable = ap (ltb e) (sym (eqb-true (getD b 0 0) (leastEdition (layoutIn b)) (says .0))) ∙ a .readable
+  readable : ltb e (leastEdition (factsIn b e)) ≡ false
+  readable = ap (ltb e) (sym (eqb-true (getD b 0 0) (leastEdition (factsIn b e)) (says .0))) ∙ a .readable
 
   writable : unwritable e (factsIn b e) ≡ false
   unfolding unwritable factsIn
@@ -86,11 +81,8 @@ module _ (b : List ℕ) (e : ℕ) (f : Facts) (a : Accepted b e f) where
   pub never-more : f .access ≤ getD b 24 0
   never-more = subst (λ (x : ℕ). x ≤ getD b 24 0) (sym access-is) (at-most (writerOf b) (getD b 24 0) e)
 
-  pub as-it-stands : (f .access ≡ closed) ⊎ ((f .access ≡ getD b 24 0) × (2 ≤ e) × (2 ≤ writerOf b))
+  pub as-it-stands : (f .access ≡ closed) ⊎ ((f .access ≡ getD b 24 0) × (hasAccess e ≡ true) × (hasAccess (writerOf b) ≡ true))
   as-it-stands = ⊎-elim (λ p. inl (access-is ∙ p)) (λ p. inr (access-is ∙ p .0, p .1, p .2)) (stands (writerOf b) (getD b 24 0) e)
 
   pub closed-to : hasAccess e ≡ false → f .access ≡ closed
   closed-to h = access-is ∙ unseen (writerOf b) (getD b 24 0) e h
-
-  pub closed-from : hasAccess (writerOf b) ≡ false → f .access ≡ closed
-  closed-from h = access-is ∙ unsaid (writerOf b) (getD b 24 0) e h

@@ -7,24 +7,26 @@ use native.Mathlib.Omega.{arith}
 use borrow.Author.Tests.{eq-eqb, not-false}
 use lib.Dec.{eqb}
 use lib.ListN.{length}
+use Rattle.lists.specs.Lists.{newOrKept}
 use Rattle.lists.specs.Bytes.{bytesOf}
 use Rattle.lists.proofs.Tests.{pass}
-use Rattle.card_table.specs.Edition.{editionKnown, hasAccess}
+use Rattle.card_table.specs.Edition.{editionKnown}
 use Rattle.card_table.specs.Facts.{factsValid}
 use Rattle.card_table.specs.Table.{cardSize, cardBytes}
 use Rattle.card_reader.specs.declared.CardReading.{CardReading}
 use Rattle.card_reader.specs.declared.CardReading.the-variants.{Shown, Refused as NotShown}
 use Rattle.card_reader.specs.Reading.{readCard}
-use Rattle.card_reader.proofs.Shown.{accepted}
+use Rattle.card_reader.proofs.Shown.{accepted as shown-says}
 use Rattle.refusal.specs.declared.Written.{Written}
 use Rattle.refusal.specs.declared.Written.the-variants.{Done, Refused}
-use Rattle.card_writer.specs.Writing.{unwritable, validAt, writeAnswer, kept, writeOutput}
+use Rattle.refusal.specs.Written.{accepted}
+use Rattle.card_writer.specs.Writing.{unwritable, validAt, writeAnswer, writeOutput}
 use Rattle.card.specs.Rewriting.{thenWrite, thenOutput, rewriteAnswer, rewriteOutput}
 use Rattle.card_writer.proofs.Answers.{changed}
-use Rattle.card_laws.specs.Claims.{ShowsWhatWasWritten, WritesValidFacts, WritesNoOther, ReadsWhatWasWritten, ShowsValidFacts, NeverMoreOpen, ClosedOrAsItStands, ShowsNoOther, ShowsLaterCards, WritesNothingRefused, RewritesNothingRefused, ClosedToEdition1, ClosedFromEdition1, RewritesInOrder, RewritesWhatWasShown, NeverOpens}
+use Rattle.card_laws.specs.Claims.{ShowsWhatWasWritten, WritesValidFacts, WritesNoOther, ReadsWhatWasWritten, ShowsValidFacts, NeverMoreOpen, ClosedOrAsItStands, ShowsNoOther, ShowsLaterCards, WritesNothingRefused, RewritesNothingRefused, RewritesInOrder, RewritesWhatWasShown, NeverOpens}
 use Rattle.card_laws.proofs.Valid.{at, write-valid}
 use Rattle.card_laws.proofs.Written.{read-card}
-use Rattle.card_laws.proofs.Any.{valid-shown, never-more, as-it-stands, closed-to, closed-from}
+use Rattle.card_laws.proofs.Any.{valid-shown, never-more, as-it-stands}
 use Rattle.card_laws.proofs.NoOther.{no-other}
 use Rattle.card_laws.proofs.Later.{later-shown}
 use Rattle.card_laws.proofs.Rewritten.{rewrite-order, result-shows, never-opens}
@@ -57,16 +59,16 @@ reads-what-was-written e e′ f out d =
     ∙ read-card e e′ f (at e f (writes-no-other e f (length out) d))
 
 pub shows-valid-facts : ShowsValidFacts
-shows-valid-facts b e f h = valid-shown b e f (accepted b e f h)
+shows-valid-facts b e f h = valid-shown b e f (shown-says b e f h)
 
 pub never-more-open : NeverMoreOpen
-never-more-open b e f h = never-more b e f (accepted b e f h)
+never-more-open b e f h = never-more b e f (shown-says b e f h)
 
 pub closed-or-as-it-stands : ClosedOrAsItStands
-closed-or-as-it-stands b e f h = as-it-stands b e f (accepted b e f h)
+closed-or-as-it-stands b e f h = as-it-stands b e f (shown-says b e f h)
 
 pub shows-no-other : ShowsNoOther
-shows-no-other b e f y h l = no-other b e f y (accepted b e f h) l
+shows-no-other b e f y h l = no-other b e f y (shown-says b e f h) l
 
 pub shows-later-cards : ShowsLaterCards
 unfolding cardBytes bytesOf
@@ -74,7 +76,7 @@ shows-later-cards w e f others v n k l m = later-shown w e f others v n k l m
 
 pub writes-nothing-refused : WritesNothingRefused
 unfolding writeOutput
-writes-nothing-refused e f out k h = ap (λ (w : Written). kept w out (cardBytes e f)) h
+writes-nothing-refused e f out k h = ap (λ (w : Written). newOrKept (accepted w) (cardBytes e f) out) h
 
 pub rewrites-nothing-refused : RewritesNothingRefused
 unfolding rewriteAnswer rewriteOutput
@@ -84,18 +86,12 @@ rewrites-nothing-refused b e out k h = go (readCard b e) h
     go (NotShown n) q = refl
     go (Shown f) q = writes-nothing-refused e f out k q
 
-pub closed-to-edition-1 : ClosedToEdition1
-closed-to-edition-1 b f h = closed-to b 1 f (accepted b 1 f h) refl
-
-pub closed-from-edition-1 : ClosedFromEdition1
-closed-from-edition-1 b e f h w = closed-from b e f (accepted b e f h) (ap hasAccess w)
-
 pub rewrites-in-order : RewritesInOrder
 rewrites-in-order = rewrite-order
 
 pub rewrites-what-was-shown : RewritesWhatWasShown
 rewrites-what-was-shown b e e′ f out h n =
-    let v = at e f (valid-shown b e f (accepted b e f h)) in
+    let v = at e f (valid-shown b e f (shown-says b e f h)) in
     result-shows b e f out h (write-valid e f (length out) v ∙ pass _ (ap not (eq-eqb (length out) cardSize n)) refl) e′
 
 pub rewrites-never-open : NeverOpens

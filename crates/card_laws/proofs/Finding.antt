@@ -5,7 +5,6 @@ use mathlib.Core.Path.{_≡_, refl, ap, _∙_}
 use mathlib.Core.List.{List}
 use native.Mathlib.Omega.{arith}
 use borrow.Author.Tests.{eq-eqb, eqb-true}
-use lib.Dec.{eqb}
 use lib.ListN.{length, length-take, length-drop}
 use Rattle.card_reader.specs.declared.CardReading.{CardReading}
 use Rattle.card_reader.specs.declared.CardReading.the-variants.{Shown, Refused as NotShown}
@@ -13,7 +12,7 @@ use Rattle.card_reader.specs.Reading.{readCard, showsItem}
 use Rattle.refusal.specs.Refusal.{wrongLength, unknownEdition, noItem}
 use Rattle.stack.specs.declared.Found.the-variants.{Refused}
 use Rattle.stack.specs.Stack.{cardsIn, cardAt}
-use Rattle.stack.specs.Finding.{hasItem, located}
+use Rattle.stack.specs.Finding.{hasItem}
 use Rattle.stack.proofs.First.{first-is, none-is, is-first, is-none}
 use Rattle.stack.proofs.Answers.{located-first, searched, searched-at, located-in}
 use Rattle.card_laws.specs.Finding.{Has, LocatesTheFirst, LocatesIt, NoneWhere15, FifteenWhereNone, FindsWholeCards}

@@ -13,13 +13,14 @@ use Rattle.card_table.specs.declared.facts.Facts.{Facts}
 use Rattle.card_table.specs.Edition.{newest, editionKnown, hasAccess, leastEdition}
 use Rattle.card_table.specs.Facts.{closed, accessKnown, factsValid, withAccess}
 use Rattle.card_table.specs.Table.{cardSize, cardBytes}
+use Rattle.card_table.proofs.Table.{least-with, least-some}
 use Rattle.card_reader.specs.declared.CardReading.the-variants.{Shown}
 use Rattle.card_reader.specs.Reading.{accessOf, layoutIn, factsIn, frontRight, accessUnknown, endWrong, readCard}
 use Rattle.card_reader.proofs.Answers.{shown}
-use Rattle.card_laws.proofs.Valid.{sizes, valid-with, least-some}
+use Rattle.card_laws.proofs.Valid.{sizes, valid-with}
 use Rattle.card_laws.proofs.Written.{width-is, height-is, item-is}
 
-module _ (w e : ℕ) (f : Facts) (others : List ℕ) (v : factsValid f ≡ true) (n : length others ≡ 8) (k : editionKnown e ≡ true) (l : leastEdition (f .layout) ≤ e) (m : e < w) where
+module _ (w e : ℕ) (f : Facts) (others : List ℕ) (v : factsValid f ≡ true) (n : length others ≡ 8) (k : editionKnown e ≡ true) (l : leastEdition f ≤ e) (m : e < w) where
   -- bytes 0 to 23 of the table's card, and any others
   abbrev pub card : List ℕ
   unfolding cardBytes bytesOf
@@ -61,9 +62,10 @@ module _ (w e : ℕ) (f : Facts) (others : List ℕ) (v : factsValid f ≡ true)
   front-seen : frontRight card seen ≡ true
   unfolding frontRight card
   front-seen =
-      let s = leastEdition (f .layout) in
+      let s = leastEdition f in
+      let t = eq-eqb s (leastEdition seen) (sym (least-with f shownAccess)) in
       let z = valid-with f shownAccess v (fits (hasAccess e) (getD others 0 0)) in
-      λ i. eq-eqb s s refl i && le-leb s w (omega (arith, l, m)) i && z i && true && true
+      λ i. t i && le-leb s w (omega (arith, l, m)) i && z i && true && true
 
   access-is : accessUnknown w (getD others 0 0) e ≡ false
   unfolding accessUnknown
@@ -79,4 +81,4 @@ module _ (w e : ℕ) (f : Facts) (others : List ℕ) (v : factsValid f ≡ true)
 
   pub later-shown : readCard card e ≡ Shown seen
   unfolding card
-  later-shown = sym (shown card e long-is k (least-some (f .layout)) (le-ltb e (leastEdition (f .layout)) l) (ap (frontRight card) facts-is ∙ front-seen) access-is end-is) ∙ ap Shown facts-is
+  later-shown = sym (shown card e long-is k (least-some f) (le-ltb e (leastEdition f) l) (ap (frontRight card) facts-is ∙ front-seen) access-is end-is) ∙ ap Shown facts-is

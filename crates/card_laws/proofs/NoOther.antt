@@ -76,16 +76,16 @@ module _ (b : List ℕ) (e : ℕ) (a : Accepted b e (factsIn b e)) (le : writerO
       go false p = without p
 
   -- bytes 0, 7 and 11
-  front-is : (getD b 0 0 ≡ leastEdition (layoutIn b)) × (getD b 7 0 ≡ 0) × (getD b 11 0 ≡ 0)
+  front-is : (getD b 0 0 ≡ leastEdition (factsIn b e)) × (getD b 7 0 ≡ 0) × (getD b 11 0 ≡ 0)
   unfolding frontRight factsIn
   front-is =
-      let s = eqb (getD b 0 0) (leastEdition (layoutIn b)) in
+      let s = eqb (getD b 0 0) (leastEdition (factsIn b e)) in
       let t = leb (getD b 0 0) (writerOf b) in
       let u = factsValid (factsIn b e) in
       let x = eqb (getD b 7 0) 0 in
       let y = eqb (getD b 11 0) 0 in
       let r = and3 (s && t && u) x y (a .front) in
-      (eqb-true (getD b 0 0) (leastEdition (layoutIn b)) (and3 s t u (r .0) .0), eqb-true (getD b 7 0) 0 (r .1), eqb-true (getD b 11 0) 0 (r .2))
+      (eqb-true (getD b 0 0) (leastEdition (factsIn b e)) (and3 s t u (r .0) .0), eqb-true (getD b 7 0) 0 (r .1), eqb-true (getD b 11 0) 0 (r .2))
 
   module _ (h : (i : ℕ) → getD b i 0 < 256) where
     -- byte by byte

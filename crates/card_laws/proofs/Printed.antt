@@ -1,18 +1,22 @@
 -- The rows as document 01 prints them. Assumes nothing.
 use mathlib.Core.Path.{_≡_, refl, sym, ap, ap₂, _∙_, subst}
 use mathlib.Core.Bool.{Bool, true, false, not, cond, _&&_, _||_, and-false, false≢true}
-use mathlib.Core.Logic.{_⊎_, inl, inr}
+use mathlib.Core.Logic.{_⊎_, inl, inr, ⊎-elim}
 use Prim.Native.Nat.{ℕ, zero, suc, _≤_}
 use native.Mathlib.Omega.{arith}
 use borrow.Author.Tests.{leb-true, leb-false, lt-leb, lt-ltb, le-ltb, eq-eqb, ne-eqb}
 use lib.Dec.{eqb, leb, ltb}
+use lib.ListN.{getD}
 use Rattle.lists.specs.Bytes.{numberAt}
 use Rattle.lists.proofs.Tests.{and-right}
 use Rattle.card_table.specs.Edition.{editionKnown, hasAccess, leastEdition}
 use Rattle.card_table.specs.Facts.{closed, accessKnown}
-use Rattle.card_reader.specs.Reading.{writerOf, accessOf, tableHolds, accessUnknown, endWrong}
+use Rattle.card_reader.specs.Reading.{writerOf, accessOf, tableHolds, accessUnknown, endWrong, readCard}
 use Rattle.card_writer.specs.Writing.{unwritable}
-use Rattle.card_laws.specs.Printed.{Row7, Row9OfTheEnd, Row10, Row11, AccessShown}
+use Rattle.card_reader.specs.declared.CardReading.the-variants.{Shown}
+use Rattle.card_laws.proofs.Valid.{at}
+use Rattle.card_laws.specs.Printed.{Row7, Row9OfTheEnd, Row10, Row11, AccessShown, ClosedOrAsItStandsFrom2, ClosedToEdition1, ClosedFromEdition1, ClosedOrShownAt2}
+use Rattle.card_laws.proofs.Claims.{closed-or-as-it-stands, shows-valid-facts, rewrites-never-open}
 
 -- ---- tests of numbers
 
@@ -32,7 +36,7 @@ one-or-two (suc zero) h = inl refl
 one-or-two (suc (suc zero)) h = inr refl
 one-or-two (suc (suc (suc e))) h = let n : ℕ = suc (suc (suc e)) in let l = leb-true n 2 (and-right (leb 1 n) (leb n 2) h) in absurd (omega arith)
 
-by-edition : (P : ℕ → Type 0) → P 1 → P 2 → (e : ℕ) → editionKnown e ≡ true → P e
+pub by-edition : (P : ℕ → Type 0) → P 1 → P 2 → (e : ℕ) → editionKnown e ≡ true → P e
 by-edition P p q e h = elim (one-or-two e h) [ inl i ↦ subst P (sym i) p | inr i ↦ subst P (sym i) q ]
 
 holds-1 : (w : ℕ) → tableHolds w 1 ≡ eqb w 2 && false
@@ -124,3 +128,22 @@ access-shown w a e k h = by-edition (λ e. cond (hasAccess w && hasAccess e && a
 
     at-2 : cond (hasAccess w && true && accessKnown a) a closed ≡ cond (eqb w 1 || false) closed (cond (leb a 2) a closed)
     at-2 = go (hasAccess w) (eqb w 1) (at-one w h)
+
+-- ---- the claims on access
+
+pub closed-or-as-it-stands-from-2 : ClosedOrAsItStandsFrom2
+closed-or-as-it-stands-from-2 b e f h = ⊎-elim inl (λ p. inr (p .0, leb-true 2 e (p .1), leb-true 2 (getD b 1 0) (p .2))) (closed-or-as-it-stands b e f h)
+
+pub closed-to-edition-1 : ClosedToEdition1
+closed-to-edition-1 b f h = ⊎-elim (λ p. p) (λ p. absurd (false≢true (p .1))) (closed-or-as-it-stands b 1 f h)
+
+pub closed-from-edition-1 : ClosedFromEdition1
+closed-from-edition-1 b e f h w = ⊎-elim (λ p. p) (λ p. absurd (false≢true (sym (ap hasAccess w) ∙ p .2))) (closed-or-as-it-stands b e f h)
+
+-- an edition that has access is 2
+two : (e : ℕ) → editionKnown e ≡ true → hasAccess e ≡ true → e ≡ 2
+two e k h = elim (one-or-two e k) [ inl i ↦ absurd (false≢true (sym (ap hasAccess i) ∙ h)) | inr i ↦ i ]
+
+pub closed-or-shown-at-2 : ClosedOrShownAt2
+closed-or-shown-at-2 b e e′ g out d s =
+    ⊎-elim inl (λ p. inr (subst (λ (x : ℕ). readCard b x ≡ Shown g) (two e (at e g (shows-valid-facts b e g (p .1)) .edition) (p .0)) (p .1))) (rewrites-never-open b e e′ g out d s)

@@ -1,16 +1,14 @@
 -- What a rewrite answers, and what its result shows. Assumes nothing.
-use mathlib.Core.Path.{_≡_, refl, sym, ap, _∙_, subst}
+use mathlib.Core.Path.{_≡_, refl, sym, ap, _∙_}
 use mathlib.Core.Bool.{Bool, true, false, not, cond}
 use mathlib.Core.Logic.{_⊎_, inl, inr}
 use mathlib.Core.List.{List}
 use Prim.Native.Nat.{ℕ}
 use native.Mathlib.Omega.{arith}
-use borrow.Author.Tests.{leb-true}
-use lib.Dec.{leb, ltb}
+use lib.Dec.{ltb}
 use lib.ListN.{length}
-use Rattle.lists.proofs.Tests.{and-right}
 use Rattle.card_table.specs.declared.facts.Facts.{Facts}
-use Rattle.card_table.specs.Edition.{newest, editionKnown, hasAccess, leastEdition}
+use Rattle.card_table.specs.Edition.{editionKnown, hasAccess, leastEdition}
 use Rattle.card_table.specs.Facts.{closed, withAccess}
 use Rattle.card_table.specs.Table.{cardBytes}
 use Rattle.card_reader.specs.declared.CardReading.{CardReading}
@@ -51,29 +49,26 @@ seen-is : (f g : Facts) (e : ℕ) → shows f e ≡ Shown g → withAccess f (co
 unfolding shows
 seen-is f g e h =
     let r₃ : CardReading = Shown (withAccess f (cond (hasAccess e) (f .access) closed)) in
-    let r₂ : CardReading = cond (ltb e (leastEdition (f .layout))) (NotShown 8) r₃ in
+    let r₂ : CardReading = cond (ltb e (leastEdition f)) (NotShown 8) r₃ in
     let h₂ = passed (not (editionKnown e)) 7 r₂ g h in
-    let h₃ = passed (ltb e (leastEdition (f .layout))) 8 r₃ g (h₂ .1) in
+    let h₃ = passed (ltb e (leastEdition f)) 8 r₃ g (h₂ .1) in
     same-facts (withAccess f (cond (hasAccess e) (f .access) closed)) g (h₃ .1)
 
--- an edition that has access is 2
-two : (e : ℕ) → editionKnown e ≡ true → hasAccess e ≡ true → e ≡ 2
-two e k h = let l = leb-true e newest (and-right (leb 1 e) (leb e newest) k) in omega (arith, leb-true 2 e h)
-
--- closed, or shown at 2 before
-pub not-opened : (b : List ℕ) (e e′ : ℕ) (f g : Facts) → Accepted b e f → readCard b e ≡ Shown f → shows f e′ ≡ Shown g → (g .access ≡ closed) ⊎ (readCard b 2 ≡ Shown g)
+-- closed, or shown at the same edition before
+not-opened : (b : List ℕ) (e e′ : ℕ) (f g : Facts) → Accepted b e f → readCard b e ≡ Shown f → shows f e′ ≡ Shown g
+    → (g .access ≡ closed) ⊎ ((hasAccess e ≡ true) × (readCard b e ≡ Shown g))
 not-opened b e e′ f g a h s = go (hasAccess e) (hasAccess e′) refl (seen-is f g e′ s)
   where
-    go : (t u : Bool) → hasAccess e ≡ t → withAccess f (cond u (f .access) closed) ≡ g → (g .access ≡ closed) ⊎ (readCard b 2 ≡ Shown g)
+    go : (t u : Bool) → hasAccess e ≡ t → withAccess f (cond u (f .access) closed) ≡ g → (g .access ≡ closed) ⊎ ((hasAccess e ≡ true) × (readCard b e ≡ Shown g))
     go t false p q = inl (sym (ap (λ (x : Facts). x .access) q))
-    go true true p q = inr (subst (λ (x : ℕ). readCard b x ≡ Shown f) (two e (a .edition) p) h ∙ ap Shown q)
+    go true true p q = inr (p, h ∙ ap Shown q)
     go false true p q = inl (sym (ap (λ (x : Facts). x .access) q) ∙ closed-to b e f a p)
 
 pub never-opens : (b : List ℕ) (e e′ : ℕ) (g : Facts) (out : List ℕ) → rewriteAnswer b e (length out) ≡ Done
-    → readCard (rewriteOutput b e out) e′ ≡ Shown g → (g .access ≡ closed) ⊎ (readCard b 2 ≡ Shown g)
+    → readCard (rewriteOutput b e out) e′ ≡ Shown g → (g .access ≡ closed) ⊎ ((hasAccess e ≡ true) × (readCard b e ≡ Shown g))
 unfolding rewriteAnswer
 never-opens b e e′ g out d s = go (readCard b e) refl d
   where
-    go : (r : CardReading) → readCard b e ≡ r → thenWrite r e (length out) ≡ Done → (g .access ≡ closed) ⊎ (readCard b 2 ≡ Shown g)
+    go : (r : CardReading) → readCard b e ≡ r → thenWrite r e (length out) ≡ Done → (g .access ≡ closed) ⊎ ((hasAccess e ≡ true) × (readCard b e ≡ Shown g))
     go (NotShown k) p q = let z : _≡_ {A = ℕ} 0 1 = cc in absurd (omega arith)
     go (Shown f) p q = not-opened b e e′ f g (accepted b e f p) p (sym (result-shows b e f out p q e′) ∙ s)

@@ -6,11 +6,10 @@ use native.Mathlib.Omega.{arith}
 use borrow.Author.Tests.{leb-true, ltb-true, not-true}
 use lib.Dec.{eqb, leb, ltb}
 use Rattle.lists.proofs.Tests.{and-left, and-right, and3, pass}
-use Rattle.layout.specs.declared.Layout.{Layout}
 use Rattle.layout.specs.Layout.{validLayout}
 use Rattle.card_table.specs.declared.facts.Facts.{Facts}
 use Rattle.card_table.specs.Edition.{editionKnown, hasAccess, leastEdition}
-use Rattle.card_table.specs.Facts.{sideKnown, closed, accessKnown, factsValid, withAccess}
+use Rattle.card_table.specs.Facts.{largestSide, sideKnown, closed, accessKnown, factsValid, withAccess}
 use Rattle.card_table.specs.Table.{cardSize}
 use Rattle.refusal.specs.declared.Written.the-variants.{Done, Refused}
 use Rattle.card_writer.specs.Writing.{unwritable, validAt, writeAnswer}
@@ -36,8 +35,8 @@ pub record Sizes (f : Facts) : Type 0 where
   pub item : f .item < 256 ^ 8
   pub access : accessKnown (f .access) ≡ true
 
-side-most : (side : ℕ) → sideKnown side ≡ true → side ≤ 4096
-side-most side h = leb-true side 4096 (and-right (leb 1 side) (leb side 4096) h)
+side-most : (side : ℕ) → sideKnown side ≡ true → side ≤ largestSide
+side-most side h = leb-true side largestSide (and-right (leb 1 side) (leb side largestSide) h)
 
 pub sizes : (f : Facts) → factsValid f ≡ true → Sizes f
 unfolding factsValid
@@ -66,8 +65,8 @@ pub record At (e : ℕ) (f : Facts) : Type 0 where
   pub edition : editionKnown e ≡ true
   pub facts : factsValid f ≡ true
   pub writable : unwritable e f ≡ false
-  -- the edition reads the layout
-  pub readable : ltb e (leastEdition (f .layout)) ≡ false
+  -- the edition reads the facts
+  pub readable : ltb e (leastEdition f) ≡ false
   -- and has the access
   pub silent : not (hasAccess e) && not (eqb (f .access) closed) ≡ false
 
@@ -76,7 +75,7 @@ unfolding validAt unwritable
 at e f v =
     let h = and3 (editionKnown e) (factsValid f) (not (unwritable e f)) v in
     let u = not-true (unwritable e f) (h .2) in
-    let t = ltb e (leastEdition (f .layout)) in
+    let t = ltb e (leastEdition f) in
     let s = not (hasAccess e) && not (eqb (f .access) closed) in
     record { edition = h .0; facts = h .1; writable = u; readable = or-left t s u; silent = or-right t s u }
 
@@ -84,13 +83,3 @@ at e f v =
 pub write-valid : (e : ℕ) (f : Facts) (bytes : ℕ) → At e f → writeAnswer e f bytes ≡ cond (not (eqb bytes cardSize)) (Refused 13) Done
 unfolding writeAnswer
 write-valid e f bytes v = pass _ (ap not (v .edition)) (pass _ (ap not (v .facts)) (pass _ (v .writable) refl))
-
--- ---- the least edition of a layout is one
-
-pub least-some : (l : Layout) → eqb (leastEdition l) 0 ≡ false
-unfolding leastEdition
-least-some l = go (eqb (l .depth) 12)
-  where
-    go : (t : Bool) → eqb (cond t 2 1) 0 ≡ false
-    go true = refl
-    go false = refl

@@ -13,12 +13,12 @@ use Rattle.card_table.specs.declared.facts.Facts.{Facts}
 use Rattle.card_table.specs.Edition.{editionKnown, hasAccess, leastEdition}
 use Rattle.card_table.specs.Facts.{closed, accessKnown, withAccess}
 use Rattle.card_table.specs.Table.{cardSize, cardBytes}
-use Rattle.card_table.proofs.Table.{length-card}
+use Rattle.card_table.proofs.Table.{length-card, least-with, least-some}
 use Rattle.card_reader.specs.declared.CardReading.the-variants.{Shown}
 use Rattle.card_reader.specs.Reading.{accessOf, layoutIn, factsIn, frontRight, tableHolds, accessUnknown, endWrong, readCard}
 use Rattle.card_reader.proofs.Answers.{refused-7, refused-8, shown}
 use Rattle.card_laws.specs.Claims.{shows}
-use Rattle.card_laws.proofs.Valid.{Sizes, sizes, valid-with, At, least-some}
+use Rattle.card_laws.proofs.Valid.{Sizes, sizes, valid-with, At}
 
 -- the access that is shown of a card of valid facts
 access-shown : (e e′ a : ℕ) → accessKnown a ≡ true → not (hasAccess e) && not (eqb a closed) ≡ false → accessOf e a e′ ≡ cond (hasAccess e′) a closed
@@ -77,9 +77,10 @@ module _ (e e′ : ℕ) (f : Facts) (v : At e f) where
   front-seen : frontRight (cardBytes e f) seen ≡ true
   unfolding frontRight cardBytes
   front-seen =
-      let l = leastEdition (f .layout) in
+      let l = leastEdition f in
+      let s = eq-eqb l (leastEdition seen) (sym (least-with f (cond (hasAccess e′) (f .access) closed))) in
       let z = valid-with f (cond (hasAccess e′) (f .access) closed) (v .facts) (access-fits (f .access) (hasAccess e′) (sizes f (v .facts) .access)) in
-      λ i. eq-eqb l l refl i && le-leb l e (ltb-false e l (v .readable)) i && z i && true && true
+      λ i. s i && le-leb l e (ltb-false e l (v .readable)) i && z i && true && true
 
   front-is : frontRight (cardBytes e f) (factsIn (cardBytes e f) e′) ≡ true
   front-is = ap (frontRight (cardBytes e f)) facts-is ∙ front-seen
@@ -99,15 +100,15 @@ module _ (e e′ : ℕ) (f : Facts) (v : At e f) where
   long-is = ap (λ (n : ℕ). eqb n cardSize) (length-card e f)
 
   -- no row applies
-  read-shown : editionKnown e′ ≡ true → ltb e′ (leastEdition (f .layout)) ≡ false → readCard (cardBytes e f) e′ ≡ Shown seen
+  read-shown : editionKnown e′ ≡ true → ltb e′ (leastEdition f) ≡ false → readCard (cardBytes e f) e′ ≡ Shown seen
   unfolding cardBytes bytesOf
-  read-shown k h = sym (shown (cardBytes e f) e′ long-is k (least-some (f .layout)) h front-is access-is rest-right) ∙ ap Shown facts-is
+  read-shown k h = sym (shown (cardBytes e f) e′ long-is k (least-some f) h front-is access-is rest-right) ∙ ap Shown facts-is
 
-  by-rows : (k h : Bool) → editionKnown e′ ≡ k → ltb e′ (leastEdition (f .layout)) ≡ h → readCard (cardBytes e f) e′ ≡ shows f e′
+  by-rows : (k h : Bool) → editionKnown e′ ≡ k → ltb e′ (leastEdition f) ≡ h → readCard (cardBytes e f) e′ ≡ shows f e′
   unfolding shows cardBytes
   by-rows false h p q = sym (refused-7 (cardBytes e f) e′ long-is p) ∙ sym (stop _ (ap not p))
-  by-rows true true p q = sym (refused-8 (cardBytes e f) e′ long-is p (least-some (f .layout)) q) ∙ sym (pass _ (ap not p) (stop _ q))
+  by-rows true true p q = sym (refused-8 (cardBytes e f) e′ long-is p (least-some f) q) ∙ sym (pass _ (ap not p) (stop _ q))
   by-rows true false p q = read-shown p q ∙ sym (pass _ (ap not p) (pass _ q refl))
 
   pub read-card : readCard (cardBytes e f) e′ ≡ shows f e′
-  read-card = by-rows (editionKnown e′) (ltb e′ (leastEdition (f .layout))) refl refl
+  read-card = by-rows (editionKnown e′) (ltb e′ (leastEdition f)) refl refl

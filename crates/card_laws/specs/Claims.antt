@@ -22,11 +22,11 @@ use Rattle.card.specs.Rewriting.{rewriteAnswer, rewriteOutput}
 
 -- ---- a card that was written
 
--- what facts are to an edition: 7 where there is no such edition, 8 where the layout needs a later one, and else the facts, closed to an edition that has no access
+-- what facts are to an edition: 7 where there is no such edition, 8 where they need a later one, and else the facts, closed to an edition that has no access
 unfoldable pub shows : Facts → ℕ → CardReading
 shows f e =
     cond (not (editionKnown e)) (NotShown unknownEdition)
-    (cond (ltb e (leastEdition (f .layout))) (NotShown laterEdition)
+    (cond (ltb e (leastEdition f)) (NotShown laterEdition)
     (Shown (withAccess f (cond (hasAccess e) (f .access) closed))))
 
 -- valid facts, written at any edition, are shown so at every edition
@@ -58,15 +58,8 @@ NeverMoreOpen = (b : List ℕ) (e : ℕ) (f : Facts) → readCard b e ≡ Shown 
 -- it is closed, or byte 24 as it stands; that only where the reader and the writer have access (the caution on every card: silent is closed)
 abbrev pub ClosedOrAsItStands : Type 0
 ClosedOrAsItStands =
-    (b : List ℕ) (e : ℕ) (f : Facts) → readCard b e ≡ Shown f → (f .access ≡ closed) ⊎ ((f .access ≡ getD b 24 0) × (2 ≤ e) × (2 ≤ getD b 1 0))
-
--- it is closed where the reader is at 1
-abbrev pub ClosedToEdition1 : Type 0
-ClosedToEdition1 = (b : List ℕ) (f : Facts) → readCard b 1 ≡ Shown f → f .access ≡ closed
-
--- and where the writer was
-abbrev pub ClosedFromEdition1 : Type 0
-ClosedFromEdition1 = (b : List ℕ) (e : ℕ) (f : Facts) → readCard b e ≡ Shown f → getD b 1 0 ≡ 1 → f .access ≡ closed
+    (b : List ℕ) (e : ℕ) (f : Facts) → readCard b e ≡ Shown f
+    → (f .access ≡ closed) ⊎ ((f .access ≡ getD b 24 0) × (hasAccess e ≡ true) × (hasAccess (getD b 1 0) ≡ true))
 
 -- bytes that are shown, and were not written later than they are read, are the table's card of what they show: no others are accepted
 abbrev pub ShowsNoOther : Type 0
@@ -75,7 +68,7 @@ ShowsNoOther = (b : List ℕ) (e : ℕ) (f : Facts) → areBytes b ≡ true → 
 -- a card that was written later is shown if bytes 0 to 23 are the table's, whatever the others are: byte 24 is its access if the reader has that number, and else it is closed
 abbrev pub ShowsLaterCards : Type 0
 ShowsLaterCards =
-    (w e : ℕ) (f : Facts) (others : List ℕ) → factsValid f ≡ true → length others ≡ 8 → editionKnown e ≡ true → leastEdition (f .layout) ≤ e → e < w
+    (w e : ℕ) (f : Facts) (others : List ℕ) → factsValid f ≡ true → length others ≡ 8 → editionKnown e ≡ true → leastEdition f ≤ e → e < w
     → readCard (take 24 (cardBytes w f) ++ others) e ≡ Shown (withAccess f (cond (hasAccess e && accessKnown (getD others 0 0)) (getD others 0 0) closed))
 
 -- ---- a refusal leaves the output as it was
@@ -102,8 +95,8 @@ RewritesWhatWasShown =
     (b : List ℕ) (e e′ : ℕ) (f : Facts) (out : List ℕ) → readCard b e ≡ Shown f → length out ≡ cardSize
     → readCard (rewriteOutput b e out) e′ ≡ shows f e′
 
--- a rewrite never opens: what any edition shows of its result is closed, or was shown at edition 2 before
+-- a rewrite never opens: what any edition shows of its result is closed, or is what the rewrite's own edition, which has access then, showed before
 abbrev pub NeverOpens : Type 0
 NeverOpens =
     (b : List ℕ) (e e′ : ℕ) (g : Facts) (out : List ℕ) → rewriteAnswer b e (length out) ≡ Done
-    → readCard (rewriteOutput b e out) e′ ≡ Shown g → (g .access ≡ closed) ⊎ (readCard b 2 ≡ Shown g)
+    → readCard (rewriteOutput b e out) e′ ≡ Shown g → (g .access ≡ closed) ⊎ ((hasAccess e ≡ true) × (readCard b e ≡ Shown g))

@@ -1,15 +1,20 @@
--- What document 01, "Card" and "Numbers on the refusal slip", prints of editions 1 and 2, beside the definitions, which are stated for any editions. proofs/Printed.antt proves each. Assumes nothing.
+-- What document 01, "Card" and "Numbers on the refusal slip", prints of editions 1 and 2, beside the definitions and the claims, which are stated for any editions. proofs/Printed.antt proves each. Assumes nothing.
 use Prim.Native.Nat.{ℕ, _≤_}
 use mathlib.Core.Bool.{true, not, cond, _&&_, _||_}
 use mathlib.Core.Path.{_≡_}
+use mathlib.Core.Logic.{_⊎_}
 use mathlib.Core.List.{List}
 use lib.Dec.{eqb, leb, ltb}
+use lib.ListN.{length, getD}
 use Rattle.lists.specs.Bytes.{numberAt}
 use Rattle.card_table.specs.declared.facts.Facts.{Facts}
 use Rattle.card_table.specs.Edition.{editionKnown}
 use Rattle.card_table.specs.Facts.{closed}
-use Rattle.card_reader.specs.Reading.{writerOf, accessOf, accessUnknown, endWrong}
+use Rattle.card_reader.specs.declared.CardReading.the-variants.{Shown}
+use Rattle.card_reader.specs.Reading.{writerOf, accessOf, accessUnknown, endWrong, readCard}
+use Rattle.refusal.specs.declared.Written.the-variants.{Done}
 use Rattle.card_writer.specs.Writing.{unwritable}
+use Rattle.card.specs.Rewriting.{rewriteAnswer, rewriteOutput}
 
 -- row 7: edition asked is not 1 or 2
 abbrev pub Row7 : Type 0
@@ -34,3 +39,24 @@ abbrev pub AccessShown : Type 0
 AccessShown =
     (writer access e : ℕ) → editionKnown e ≡ true → 1 ≤ writer
     → accessOf writer access e ≡ cond (eqb writer 1 || eqb e 1) closed (cond (leb access 2) access closed)
+
+-- ---- the claims on access, of editions 1 and 2
+
+-- it is closed, or byte 24 as it stands; that only where the reader and the writer are at 2 or later
+abbrev pub ClosedOrAsItStandsFrom2 : Type 0
+ClosedOrAsItStandsFrom2 =
+    (b : List ℕ) (e : ℕ) (f : Facts) → readCard b e ≡ Shown f → (f .access ≡ closed) ⊎ ((f .access ≡ getD b 24 0) × (2 ≤ e) × (2 ≤ getD b 1 0))
+
+-- it is closed where the reader is at 1
+abbrev pub ClosedToEdition1 : Type 0
+ClosedToEdition1 = (b : List ℕ) (f : Facts) → readCard b 1 ≡ Shown f → f .access ≡ closed
+
+-- and where the writer was
+abbrev pub ClosedFromEdition1 : Type 0
+ClosedFromEdition1 = (b : List ℕ) (e : ℕ) (f : Facts) → readCard b e ≡ Shown f → getD b 1 0 ≡ 1 → f .access ≡ closed
+
+-- a rewrite never opens: what any edition shows of its result is closed, or was shown at edition 2 before
+abbrev pub ClosedOrShownAt2 : Type 0
+ClosedOrShownAt2 =
+    (b : List ℕ) (e e′ : ℕ) (g : Facts) (out : List ℕ) → rewriteAnswer b e (length out) ≡ Done
+    → readCard (rewriteOutput b e out) e′ ≡ Shown g → (g .access ≡ closed) ⊎ (readCard b 2 ≡ Shown g)

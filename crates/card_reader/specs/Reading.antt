@@ -54,7 +54,7 @@ factsIn b e =
 -- bytes 0 to 23, which every edition reads, are as the table has them, f being the facts that they hold (the access in f is always one of the three)
 unfoldable pub frontRight : List ℕ → Facts → Bool
 frontRight b f =
-    eqb (getD b 0 0) (leastEdition (f .layout))
+    eqb (getD b 0 0) (leastEdition f)
     && leb (getD b 0 0) (writerOf b)
     && factsValid f
     && eqb (getD b 7 0) 0

@@ -51,8 +51,7 @@ pub(crate) fn front_right(bytes: &[u8], facts: Facts) -> bool
     requires { ⌜ length (now bytes) ≡ cardSize ⌝ }
     ensures { λ r. ⌜ r ≡ frontRight (now (bytes .entry)) facts ⌝ }
 {
-    let layout = facts.layout;
-    (bytes[0] == least(layout))
+    (bytes[0] == least(facts))
         & (bytes[0] <= bytes[1])
         & facts.valid()
         & (bytes[7] == 0)

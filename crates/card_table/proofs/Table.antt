@@ -1,11 +1,29 @@
--- Laws of the table. Assumes nothing.
+-- Laws of the table and of its byte 0. Assumes nothing.
 use mathlib.Core.Path.{_≡_, refl}
+use mathlib.Core.Bool.{Bool, true, false, cond}
 use Prim.Native.Nat.{ℕ}
+use lib.Dec.{eqb}
 use lib.ListN.{length}
 use Rattle.lists.specs.Bytes.{bytesOf}
 use Rattle.card_table.specs.declared.facts.Facts.{Facts}
+use Rattle.card_table.specs.Edition.{leastEdition}
+use Rattle.card_table.specs.Facts.{withAccess}
 use Rattle.card_table.specs.Table.{cardSize, cardBytes}
 
 pub length-card : (e : ℕ) (f : Facts) → length (cardBytes e f) ≡ cardSize
 unfolding cardBytes bytesOf
 length-card e f = refl
+
+-- the access has no part in the least edition
+pub least-with : (f : Facts) (access : ℕ) → leastEdition (withAccess f access) ≡ leastEdition f
+unfolding leastEdition
+least-with f access = refl
+
+-- which is never 0
+pub least-some : (f : Facts) → eqb (leastEdition f) 0 ≡ false
+unfolding leastEdition
+least-some f = go (eqb (f .layout .depth) 12)
+  where
+    go : (t : Bool) → eqb (cond t 2 1) 0 ≡ false
+    go true = refl
+    go false = refl

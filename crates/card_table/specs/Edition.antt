@@ -2,7 +2,7 @@
 use Prim.Native.Nat.{ℕ}
 use mathlib.Core.Bool.{Bool, cond, _&&_}
 use lib.Dec.{eqb, leb}
-use Rattle.layout.specs.declared.Layout.{Layout}
+use Rattle.card_table.specs.declared.facts.Facts.{Facts}
 
 -- the newest edition
 abbrev pub newest : ℕ
@@ -16,6 +16,6 @@ editionKnown e = leb 1 e && leb e newest
 abbrev pub hasAccess : ℕ → Bool
 hasAccess e = leb 2 e
 
--- byte 0: the least edition that can read a card of this layout, 2 if n = 12, else 1
-unfoldable pub leastEdition : Layout → ℕ
-leastEdition l = cond (eqb (l .depth) 12) 2 1
+-- byte 0: the least edition that can read a card of these facts, 2 if n = 12, else 1
+unfoldable pub leastEdition : Facts → ℕ
+leastEdition f = cond (eqb (f .layout .depth) 12) 2 1

@@ -5,9 +5,13 @@ use lib.Dec.{leb, ltb}
 use Rattle.layout.specs.Layout.{validLayout}
 use Rattle.card_table.specs.declared.facts.Facts.{Facts}
 
--- width and height: 1 to 4,096
+-- the largest width, and the largest height
+abbrev pub largestSide : ℕ
+largestSide = 4096
+
+-- width and height: from 1 to that
 abbrev pub sideKnown : ℕ → Bool
-sideKnown side = leb 1 side && leb side 4096
+sideKnown side = leb 1 side && leb side largestSide
 
 -- access: 0 closed, 1 community, 2 open
 abbrev pub closed : ℕ

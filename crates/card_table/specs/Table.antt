@@ -14,7 +14,7 @@ cardSize = 32
 unfoldable pub cardBytes : ℕ → Facts → List ℕ
 cardBytes e f =
     let l = f .layout in
-    leastEdition l ∷ e
+    leastEdition f ∷ e
     ∷ l .model ∷ l .primaries ∷ l .range ∷ l .depth ∷ l .bytes ∷ 0
     ∷ l .offset0 ∷ l .offset1 ∷ l .offset2 ∷ 0
     ∷ (bytesOf (f .width) 2 ++ (bytesOf (f .height) 2 ++ (bytesOf (f .item) 8 ++ (f .access ∷ replicate 7 0))))

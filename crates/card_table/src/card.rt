@@ -24,7 +24,7 @@ impl Card {
         ensures answer { λ r. ⌜ r .bytes ≡ cardBytes edition facts ⌝ }
     {
         let layout = facts.layout;
-        let least = edition::least(layout);
+        let least = edition::least(facts);
         let w = facts.width;
         let h = facts.height;
         let i0 = facts.item;

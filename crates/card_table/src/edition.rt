@@ -1,10 +1,10 @@
 // Editions of the card, and what each has.
 ghost use mathlib.Core.Path.{_≡_};
 ghost use Rattle.card_table.specs.Edition.{editionKnown, hasAccess, leastEdition};
-use layout::Layout;
+use crate::facts::Facts;
 
 // The newest edition. specs/Edition.antt has the same.
-const NEWEST: u8 = 2;
+pub const NEWEST: u8 = 2;
 
 // Whether there is such an edition.
 pub fn known(edition: u8) -> bool
@@ -20,10 +20,11 @@ pub fn has_access(edition: u8) -> bool
     2 <= edition
 }
 
-// The least edition that can read a card of this layout: byte 0.
-pub fn least(layout: Layout) -> u8
-    ensures { λ r. ⌜ r ≡ leastEdition layout ⌝ }
+// The least edition that can read a card of these facts: byte 0.
+pub fn least(facts: Facts) -> u8
+    ensures { λ r. ⌜ r ≡ leastEdition facts ⌝ }
 {
+    let layout = facts.layout;
     let depth = layout.depth;
     if depth == 12 { 2 } else { 1 }
 }

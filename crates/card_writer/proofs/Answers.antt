@@ -5,6 +5,7 @@ use mathlib.Core.List.{List}
 use Prim.Native.Nat.{ℕ}
 use lib.Dec.{eqb}
 use lib.ListN.{length}
+use Rattle.lists.specs.Lists.{newOrKept}
 use Rattle.lists.proofs.Tests.{pass, stop}
 use Rattle.card_table.specs.declared.facts.Facts.{Facts}
 use Rattle.card_table.specs.Edition.{editionKnown}
@@ -12,7 +13,8 @@ use Rattle.card_table.specs.Facts.{factsValid}
 use Rattle.card_table.specs.Table.{cardSize, cardBytes}
 use Rattle.refusal.specs.declared.Written.{Written}
 use Rattle.refusal.specs.declared.Written.the-variants.{Done, Refused}
-use Rattle.card_writer.specs.Writing.{unwritable, writeAnswer, kept, writeOutput}
+use Rattle.refusal.specs.Written.{accepted}
+use Rattle.card_writer.specs.Writing.{unwritable, writeAnswer, writeOutput}
 
 module _ (e : ℕ) (f : Facts) (out : List ℕ) where
   pub refused-7 : editionKnown e ≡ false → Refused 7 ≡ writeAnswer e f (length out)
@@ -41,8 +43,8 @@ module _ (e : ℕ) (f : Facts) (out : List ℕ) where
   -- what the output then holds
   pub unchanged : (n : ℕ) → Refused n ≡ writeAnswer e f (length out) → out ≡ writeOutput e f out
   unfolding writeOutput
-  unchanged n t = ap (λ (a : Written). kept a out (cardBytes e f)) t
+  unchanged n t = ap (λ (a : Written). newOrKept (accepted a) (cardBytes e f) out) t
 
   pub changed : (bytes : List ℕ) → Done ≡ writeAnswer e f (length out) → bytes ≡ cardBytes e f → bytes ≡ writeOutput e f out
   unfolding writeOutput
-  changed bytes t q = q ∙ ap (λ (a : Written). kept a out (cardBytes e f)) t
+  changed bytes t q = q ∙ ap (λ (a : Written). newOrKept (accepted a) (cardBytes e f) out) t

@@ -4,17 +4,19 @@ use mathlib.Core.Bool.{Bool, not, cond, _&&_, _||_}
 use mathlib.Core.List.{List}
 use lib.Dec.{eqb, ltb}
 use lib.ListN.{length}
+use Rattle.lists.specs.Lists.{newOrKept}
 use Rattle.refusal.specs.Refusal.{unknownEdition, outside, unwritable as unwritableRow, wrongLineOrOutput}
 use Rattle.card_table.specs.declared.facts.Facts.{Facts}
 use Rattle.refusal.specs.declared.Written.{Written}
 use Rattle.refusal.specs.declared.Written.the-variants.{Done, Refused}
+use Rattle.refusal.specs.Written.{accepted}
 use Rattle.card_table.specs.Edition.{editionKnown, hasAccess, leastEdition}
 use Rattle.card_table.specs.Facts.{closed, factsValid}
 use Rattle.card_table.specs.Table.{cardSize, cardBytes}
 
 -- the edition has no place for the layout or the access (in this paper: edition 1, and 12 bits or access other than closed)
 unfoldable pub unwritable : ℕ → Facts → Bool
-unwritable e f = ltb e (leastEdition (f .layout)) || not (hasAccess e) && not (eqb (f .access) closed)
+unwritable e f = ltb e (leastEdition f) || not (hasAccess e) && not (eqb (f .access) closed)
 
 -- facts are valid at an edition if no row of the writer's order but 13 applies
 unfoldable pub validAt : ℕ → Facts → Bool
@@ -29,11 +31,6 @@ writeAnswer e f bytes =
     (cond (not (eqb bytes cardSize)) (Refused wrongLineOrOutput)
     Done)))
 
--- an output afterwards: what is written, or what was there before where it is refused
-abbrev pub kept : Written → List ℕ → List ℕ → List ℕ
-kept Done before after = after
-kept (Refused k) before after = before
-
 -- the output after writing
 unfoldable pub writeOutput : ℕ → Facts → List ℕ → List ℕ
-writeOutput e f before = kept (writeAnswer e f (length before)) before (cardBytes e f)
+writeOutput e f before = newOrKept (accepted (writeAnswer e f (length before))) (cardBytes e f) before

@@ -1,4 +1,4 @@
--- A replay, from what its parts left: the calls' story, which is the book's. Assumes nothing.
+-- A replay, from what its parts left: the calls' trace, which is the book's. Assumes nothing.
 use mathlib.Core.Path.{_≡_, refl, sym, ap, ap₂, _∙_}
 use mathlib.Core.Bool.{Bool, true, false, cond}
 use mathlib.Core.List.{List, [], _∷_, _++_}
@@ -13,7 +13,7 @@ use Rattle.refusal.specs.declared.Written.the-variants.{Done, Refused}
 use Rattle.card_writer.specs.Writing.{writeAnswer, writeOutput}
 use Rattle.card.specs.Rewriting.{rewriteAnswer, rewriteOutput}
 use Rattle.card_laws.proofs.Claims.{writes-no-other}
-use Rattle.custody_book.specs.History.{Rewrite, Story, History}
+use Rattle.custody_book.specs.History.{Rewrite, Trace, History}
 use Rattle.custody_book.specs.Calls.{thenDecode, thenValues, cardAfter, callsFrom, calls}
 use Rattle.custody_book.specs.Meaning.{readingOf, decodingOf, valuesAfter}
 use Rattle.custody_book.proofs.Claims.{agrees}
@@ -24,10 +24,10 @@ use Rattle.custody_rewrites.specs.Rewriting.{cardAfterAll, outputsAfterAll, ans
 use Rattle.custody.specs.Lists.{answersOf, outputsOf, cardOf}
 use Rattle.custody.specs.Replay.{Given, askedBy, thenFitting, beginning, history, replayAnswer, replayCard, replayOutputs, replayAnswers, replayValues}
 
--- ---- the calls' story, part by part
+-- ---- the calls' trace, part by part
 
 module _ (last : ℕ) (packed : List ℕ) (values : List Float) where
-  abbrev from : List ℕ → List Rewrite → Story
+  abbrev from : List ℕ → List Rewrite → Trace
   from card rs = callsFrom card rs last packed values
 
   card-of : (card : List ℕ) (rs : List Rewrite) → cardAfterAll card rs ≡ cardOf card (from card rs)
@@ -115,9 +115,9 @@ module _ (g : Given) where
       unfolding calls
       first-is = ap (λ (h : History). h .card) agree
 
-      story-is : callsFrom first rs (g .last) (g .packed) (g .values) ≡ history g .story
+      trace-is : callsFrom first rs (g .last) (g .packed) (g .values) ≡ history g .trace
       unfolding calls
-      story-is = ap (λ (h : History). h .story) agree
+      trace-is = ap (λ (h : History). h .trace) agree
 
       ended : (card : List ℕ) → card ≡ cardAfterAll first rs
           → Replays (Ended (readCard card (g .last)) (thenDecode (readCard card (g .last)) (length (g .packed)) (length (g .values))))
@@ -130,11 +130,11 @@ module _ (g : Given) where
           rw begins (
             (λ i. Ended (readCard (h i) l) (thenDecode (readCard (h i) l) (length p) (length v)))
                 ∙ (λ i. Ended (reading-of l p v first rs i) (decoding-of l p v first rs i))
-                ∙ ap (λ (s : Story). Ended (readingOf s) (decodingOf s)) story-is,
-            h ∙ card-of l p v first rs ∙ (λ i. cardOf (first-is i) (story-is i)),
-            outputs-of l p v first rs ∙ ap outputsOf story-is,
-            answers-of l p v first rs ∙ ap answersOf story-is,
-            ap (λ (c : List ℕ). thenValues (readCard c l) p v) h ∙ values-of l p v first rs ∙ ap valuesAfter story-is,
+                ∙ ap (λ (s : Trace). Ended (readingOf s) (decodingOf s)) trace-is,
+            h ∙ card-of l p v first rs ∙ (λ i. cardOf (first-is i) (trace-is i)),
+            outputs-of l p v first rs ∙ ap outputsOf trace-is,
+            answers-of l p v first rs ∙ ap answersOf trace-is,
+            ap (λ (c : List ℕ). thenValues (readCard c l) p v) h ∙ values-of l p v first rs ∙ ap valuesAfter trace-is,
           )
 
       pub replays : (answer : Replayed) (values : List Float) → start ≡ first

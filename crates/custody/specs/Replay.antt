@@ -4,13 +4,15 @@ use mathlib.Core.Bool.{Bool, not, cond}
 use mathlib.Core.List.{List}
 use lib.Ieee.{Float}
 use lib.ListN.{length}
+use Rattle.lists.specs.Lists.{newOrKept}
 use Rattle.refusal.specs.Refusal.{wrongLineOrOutput}
 use Rattle.card_table.specs.declared.facts.Facts.{Facts}
 use Rattle.card_table.specs.Table.{cardSize}
 use Rattle.refusal.specs.declared.Written.{Written}
 use Rattle.refusal.specs.declared.Written.the-variants.{Done, Refused}
+use Rattle.refusal.specs.Written.{accepted}
 use Rattle.card_writer.specs.Writing.{writeAnswer}
-use Rattle.custody_book.specs.History.{Asked, Story, History}
+use Rattle.custody_book.specs.History.{Asked, Trace, History}
 use Rattle.custody_book.specs.Book.{book}
 use Rattle.custody_book.specs.Meaning.{readingOf, decodingOf, valuesAfter}
 use Rattle.custody_rewrites.specs.Lists.{rewritesOf, fitting}
@@ -55,36 +57,31 @@ beginning g =
     thenFitting (writeAnswer (g .first) (g .facts) cardSize)
     (fitting (length (g .card)) (g .editions) (g .lengths) (length (g .outputs)) (length (g .answers)))
 
--- ---- what it answers and leaves
-
--- where it does not begin, all is as it was
-abbrev pub unless : {A : Type 0} → Written → A → A → A
-unless (Refused k) before after = before
-unless Done before after = after
+-- ---- what it answers and leaves: where it does not begin, all is as it was
 
 abbrev pub history : Given → History
 history g = book (askedBy g)
 
 -- the last reading and the decoding by it, or the number by which it does not begin
-abbrev pub answerAfter : Written → Story → Replayed
+abbrev pub answerAfter : Written → Trace → Replayed
 answerAfter (Refused k) s = NotBegun k
 answerAfter Done s = Ended (readingOf s) (decodingOf s)
 
 unfoldable pub replayAnswer : Given → Replayed
-replayAnswer g = answerAfter (beginning g) (history g .story)
+replayAnswer g = answerAfter (beginning g) (history g .trace)
 
 -- the card last written
 unfoldable pub replayCard : Given → List ℕ
-replayCard g = unless (beginning g) (g .card) (cardOf (history g .card) (history g .story))
+replayCard g = newOrKept (accepted (beginning g)) (cardOf (history g .card) (history g .trace)) (g .card)
 
 -- the outputs after their rewrites
 unfoldable pub replayOutputs : Given → List ℕ
-replayOutputs g = unless (beginning g) (g .outputs) (outputsOf (history g .story))
+replayOutputs g = newOrKept (accepted (beginning g)) (outputsOf (history g .trace)) (g .outputs)
 
 -- the answers of the rewrites
 unfoldable pub replayAnswers : Given → List ℕ
-replayAnswers g = unless (beginning g) (g .answers) (answersOf (history g .story))
+replayAnswers g = newOrKept (accepted (beginning g)) (answersOf (history g .trace)) (g .answers)
 
 -- the floats of the decoded line
 unfoldable pub replayValues : Given → List Float
-replayValues g = unless (beginning g) (g .values) (valuesAfter (history g .story))
+replayValues g = newOrKept (accepted (beginning g)) (valuesAfter (history g .trace)) (g .values)

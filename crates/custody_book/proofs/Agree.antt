@@ -2,22 +2,19 @@
 use mathlib.Core.Path.{_≡_, refl, sym, ap, _∙_}
 use mathlib.Core.Bool.{Bool, true, false, not, cond, _&&_}
 use mathlib.Core.List.{List, [], _∷_}
-use Prim.Native.Nat.{ℕ, zero, suc, _^_}
-use native.Mathlib.Omega.{arith}
-use borrow.Author.Tests.{le-leb, eq-eqb, ne-eqb}
+use Prim.Native.Nat.{ℕ, _^_}
+use borrow.Author.Tests.{eq-eqb}
 use lib.Dec.{eqb, leb, ltb}
 use lib.Ieee.{Float}
 use lib.ListN.{length}
 use Rattle.lists.proofs.Tests.{and3, pass, stop}
 use Rattle.layout.specs.Layout.{validLayout}
-use Rattle.line.specs.declared.LineAnswer.{LineAnswer}
-use Rattle.line.specs.declared.LineAnswer.the-variants.{Points, Refused as LineRefused}
-use Rattle.line.specs.Answer.{unpackAnswer, kept as line-kept}
-use Rattle.decoding.specs.Decode.{valuesOf}
+use Rattle.line.specs.Answer.{unpackAnswer}
 use Rattle.card_table.specs.declared.facts.Facts.{Facts}
-use Rattle.card_table.specs.Edition.{editionKnown, hasAccess, leastEdition}
-use Rattle.card_table.specs.Facts.{closed, sideKnown, accessKnown, factsValid, withAccess}
+use Rattle.card_table.specs.Edition.{editionKnown, leastEdition}
+use Rattle.card_table.specs.Facts.{sideKnown, accessKnown, factsValid, withAccess}
 use Rattle.card_table.specs.Table.{cardSize, cardBytes}
+use Rattle.card_table.proofs.Table.{least-with}
 use Rattle.card_reader.specs.declared.CardReading.{CardReading}
 use Rattle.card_reader.specs.declared.CardReading.the-variants.{Shown, Refused as NotShown}
 use Rattle.card_reader.specs.Reading.{readCard}
@@ -29,17 +26,10 @@ use Rattle.card.specs.Rewriting.{rewriteAnswer, rewriteOutput}
 use Rattle.card.proofs.Answers.{refused, written}
 use Rattle.card_laws.specs.Claims.{shows}
 use Rattle.card_laws.proofs.Claims.{shows-what-was-written, writes-valid-facts, shows-valid-facts}
-use Rattle.custody_book.specs.History.{Rewrite, Story, Story.ended, Story.rewritten}
-use Rattle.custody_book.specs.Book.{accessAt, bookAt, bookReading, pointsIn, decodable, bookDecoding, bookValues, bookEnd, bookFrom, book}
+use Rattle.custody_book.specs.History.{Rewrite, Trace, Trace.ended, Trace.rewritten}
+use Rattle.custody_book.specs.Book.{accessAt, bookAt, bookReading, decodable, bookDecoding, bookValues, bookEnd, bookFrom, book}
 use Rattle.custody_book.specs.Calls.{thenDecode, thenValues, callsEnd, callsFrom, calls}
 use Rattle.custody_book.specs.Claims.{Agrees}
-
--- ---- the access that an edition leaves
-
-known-access : (e a : ℕ) → editionKnown e ≡ true → cond (hasAccess e) a closed ≡ accessAt e a
-known-access zero a k = let z : _≡_ {A = ℕ} 0 1 = cc in absurd (omega arith)
-known-access (suc zero) a k = refl
-known-access (suc (suc e)) a k = rw (le-leb 2 (suc (suc e)) (omega arith), ne-eqb (suc (suc e)) 1 (omega arith)) refl
 
 -- ---- the decoding: no row but 13 is left
 
@@ -52,21 +42,22 @@ unfolding factsValid
 layout-valid f v =
     first (validLayout (f .layout)) (sideKnown (f .width)) (sideKnown (f .height)) (leb 1 (f .item)) (ltb (f .item) (2 ^ 64)) (accessKnown (f .access)) v
 
-kept-cond : (t : Bool) (n k : ℕ) (before after : List Float) → line-kept (cond t (LineRefused k) (Points n)) before after ≡ cond t before after
-kept-cond true n k before after = refl
-kept-cond false n k before after = refl
-
 module _ (g : Facts) (v : factsValid g ≡ true) (packed : List ℕ) (values : List Float) where
   decoding-is : thenDecode (Shown g) (length packed) (length values) ≡ bookDecoding (Shown g) packed values
   unfolding unpackAnswer
   decoding-is = pass _ (ap not (layout-valid g v)) refl
 
   values-is : thenValues (Shown g) packed values ≡ bookValues (Shown g) packed values
-  values-is = ap (λ (answer : LineAnswer). line-kept answer values (valuesOf (g .layout) packed)) decoding-is ∙ kept-cond (not (decodable (g .layout) packed values)) (pointsIn (g .layout) packed) 13 values (valuesOf (g .layout) packed)
+  unfolding unpackAnswer
+  values-is = go (decodable (g .layout) packed values) refl
+    where
+      go : (t : Bool) → decodable (g .layout) packed values ≡ t → thenValues (Shown g) packed values ≡ bookValues (Shown g) packed values
+      go true p = rw (layout-valid g v, p) refl
+      go false p = rw (layout-valid g v, p) refl
 
 -- ---- one rewrite
 
-next : {answer : Written} {output card : List ℕ} {s s′ : Story} → s ≡ s′ → rewritten answer output card s ≡ rewritten answer output card s′
+next : {answer : Written} {output card : List ℕ} {s s′ : Trace} → s ≡ s′ → rewritten answer output card s ≡ rewritten answer output card s′
 next {answer} {output} {card} h = ap (rewritten answer output card) h
 
 module _ (e : ℕ) (f : Facts) (a : ℕ) (v : validAt e (withAccess f a) ≡ true) where
@@ -76,14 +67,10 @@ module _ (e : ℕ) (f : Facts) (a : ℕ) (v : validAt e (withAccess f a) ≡ tru
   -- what the card shows is what the book says
   reading-is : (e′ : ℕ) → readCard card e′ ≡ bookReading f (bookAt e f a) e′
   unfolding shows
-  reading-is e′ = shows-what-was-written e e′ (withAccess f a) v ∙ go (editionKnown e′) refl
-    where
-      go : (k : Bool) → editionKnown e′ ≡ k → shows (withAccess f a) e′ ≡ bookReading f (bookAt e f a) e′
-      go false p = rw p refl
-      go true p = rw (known-access e′ a p) refl
+  reading-is e′ = shows-what-was-written e e′ (withAccess f a) v ∙ rw (least-with f a) refl
 
   -- an edition that reads it: the facts with the access that it leaves, which are valid there
-  module _ (e′ : ℕ) (k : editionKnown e′ ≡ true) (l : ltb e′ (leastEdition (f .layout)) ≡ false) where
+  module _ (e′ : ℕ) (k : editionKnown e′ ≡ true) (l : ltb e′ (leastEdition f) ≡ false) where
     abbrev seen : Facts
     seen = withAccess f (accessAt e′ a)
 
@@ -101,7 +88,7 @@ module _ (e : ℕ) (f : Facts) (a : ℕ) (v : validAt e (withAccess f a) ≡ tru
     declined : (n : ℕ) → readCard card (r .edition) ≡ NotShown n → Wrote (Refused n) (r .output)
     declined n h = let d = refused card (r .edition) (r .output) n h in (sym (d .0), sym (d .1))
 
-    module _ (k : editionKnown (r .edition) ≡ true) (l : ltb (r .edition) (leastEdition (f .layout)) ≡ false) where
+    module _ (k : editionKnown (r .edition) ≡ true) (l : ltb (r .edition) (leastEdition f) ≡ false) where
       abbrev facts : Facts
       facts = seen (r .edition) k l
 
@@ -130,7 +117,7 @@ module _ (e : ℕ) (f : Facts) (a : ℕ) (v : validAt e (withAccess f a) ≡ tru
           → (validAt (r .edition) (withAccess f (accessAt (r .edition) a)) ≡ true
           → callsFrom (cardBytes (r .edition) (withAccess f (accessAt (r .edition) a))) rs last packed values
           ≡ bookFrom f (bookAt (r .edition) f (accessAt (r .edition) a)) rs last packed values)
-          → (k l m : Bool) → editionKnown (r .edition) ≡ k → ltb (r .edition) (leastEdition (f .layout)) ≡ l → eqb (length (r .output)) cardSize ≡ m
+          → (k l m : Bool) → editionKnown (r .edition) ≡ k → ltb (r .edition) (leastEdition f) ≡ l → eqb (length (r .output)) cardSize ≡ m
           → callsFrom card (r ∷ rs) last packed values ≡ bookFrom f (bookAt e f a) (r ∷ rs) last packed values
       step stays goes false l m p q s =
           let w = declined 7 (reading-is (r .edition) ∙ stop _ (ap not p)) in
@@ -164,7 +151,7 @@ from e f a v [] last packed values =
 from e f a v (r ∷ rs) last packed values =
     step e f a v r rs last packed values (from e f a v rs last packed values)
     (λ w. from (r .edition) f (accessAt (r .edition) a) w rs last packed values)
-    (editionKnown (r .edition)) (ltb (r .edition) (leastEdition (f .layout))) (eqb (length (r .output)) cardSize) refl refl refl
+    (editionKnown (r .edition)) (ltb (r .edition) (leastEdition f)) (eqb (length (r .output)) cardSize) refl refl refl
 
 pub from-the-first : Agrees
 unfolding calls book writeOutput
@@ -172,4 +159,4 @@ from-the-first a output v n =
     let e = a .first in
     let f = a .facts in
     let w = writes-valid-facts e f (length output) v ∙ pass _ (ap not (eq-eqb (length output) cardSize n)) refl in
-    rw w (λ i. record { answer = Done; card = cardBytes e f; story = from e f (f .access) v (a .rewrites) (a .last) (a .packed) (a .values) i })
+    rw w (λ i. record { answer = Done; card = cardBytes e f; trace = from e f (f .access) v (a .rewrites) (a .last) (a .packed) (a .values) i })

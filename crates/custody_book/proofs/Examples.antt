@@ -16,7 +16,7 @@ use Rattle.refusal.specs.declared.Written.{Written}
 use Rattle.refusal.specs.declared.Written.the-variants.{Done, Refused}
 use Rattle.card_writer.specs.Writing.{unwritable, writeAnswer, writeOutput}
 use Rattle.card.specs.Rewriting.{rewriteAnswer, rewriteOutput}
-use Rattle.custody_book.specs.History.{Rewrite, Asked, Story, Story.ended, Story.rewritten}
+use Rattle.custody_book.specs.History.{Rewrite, Asked, Trace, Trace.ended, Trace.rewritten}
 use Rattle.custody_book.specs.Book.{book}
 use Rattle.custody_book.specs.Calls.{calls}
 use Rattle.custody_book.specs.Meaning.{readingOf, decodingOf}
@@ -50,14 +50,14 @@ into e bytes = record { edition = e; output = replicate bytes 9 }
 abbrev asking : Facts → List Rewrite → ℕ → Asked
 asking f rs last = record { first = 2; facts = f; rewrites = rs; last = last; packed = replicate 8 0; values = [] }
 
-abbrev answers : Story → List Written
+abbrev answers : Trace → List Written
 answers (ended reading decoding values) = []
 answers (rewritten answer output card s) = answer ∷ answers s
 
 -- refused rewrites leave it open; an accepted one at 1 closes it for good
-in-the-book : let refused = book (asking seven (into 3 32 ∷ into 1 31 ∷ into 2 32 ∷ []) 2) .story in
-    let through-1 = book (asking seven (into 2 32 ∷ into 1 32 ∷ into 2 32 ∷ []) 2) .story in
-    let twelve = book (asking eight (into 1 32 ∷ into 1 0 ∷ into 2 32 ∷ []) 1) .story in
+in-the-book : let refused = book (asking seven (into 3 32 ∷ into 1 31 ∷ into 2 32 ∷ []) 2) .trace in
+    let through-1 = book (asking seven (into 2 32 ∷ into 1 32 ∷ into 2 32 ∷ []) 2) .trace in
+    let twelve = book (asking eight (into 1 32 ∷ into 1 0 ∷ into 2 32 ∷ []) 1) .trace in
     (answers refused ≡ Refused 7 ∷ Refused 13 ∷ Done ∷ [])
     × (readingOf refused ≡ Shown seven)
     × (decodingOf refused ≡ LineRefused 13)
@@ -65,15 +65,15 @@ in-the-book : let refused = book (asking seven (into 3 32 ∷ into 1 31 ∷ into
     × (readingOf through-1 ≡ Shown (withAccess seven 0))
     × (answers twelve ≡ Refused 8 ∷ Refused 8 ∷ Done ∷ [])
     × (readingOf twelve ≡ NotShown 8)
-    × (readingOf (book (asking seven [] 1) .story) ≡ Shown (withAccess seven 0))
-    × (readingOf (book (asking seven [] 0) .story) ≡ NotShown 7)
+    × (readingOf (book (asking seven [] 1) .trace) ≡ Shown (withAccess seven 0))
+    × (readingOf (book (asking seven [] 0) .trace) ≡ NotShown 7)
 unfolding book leastEdition
 in-the-book = (refl, refl, refl, refl, refl, refl, refl, refl, refl)
 
 -- and the calls do the same
 by-calls : let through-1 = calls (asking seven (into 2 32 ∷ into 3 32 ∷ into 1 32 ∷ into 2 32 ∷ []) 2) (replicate 32 9) in
     (through-1 .answer ≡ Done)
-    × (answers (through-1 .story) ≡ Done ∷ Refused 7 ∷ Done ∷ Done ∷ [])
-    × (readingOf (through-1 .story) ≡ Shown (withAccess seven 0))
+    × (answers (through-1 .trace) ≡ Done ∷ Refused 7 ∷ Done ∷ Done ∷ [])
+    × (readingOf (through-1 .trace) ≡ Shown (withAccess seven 0))
 unfolding calls cardBytes bytesOf readCard leastEdition factsValid validLayout accessOf layoutIn factsIn frontRight accessUnknown endWrong unwritable writeAnswer writeOutput rewriteAnswer rewriteOutput
 by-calls = (refl, refl, refl)

@@ -1,4 +1,5 @@
 mod Agree
 mod Means
+pub mod Printed
 mod Examples
 pub mod Claims

@@ -1,7 +1,6 @@
 -- The book says what demand 3 asks for. Assumes nothing.
-use mathlib.Core.Path.{_≡_, refl, sym, ap, ap₂, _∙_, subst}
-use mathlib.Core.Bool.{Bool, true, false, not, cond, _&&_, and-false}
-use mathlib.Core.Logic.{_⊎_, inl, inr}
+use mathlib.Core.Path.{_≡_, refl, sym, ap, ap₂, _∙_}
+use mathlib.Core.Bool.{Bool, true, false, not, cond, _&&_, _||_, and-false}
 use mathlib.Core.List.{List, [], _∷_}
 use Prim.Native.Nat.{ℕ, _*_, _/_, _%_}
 use native.Mathlib.Nat.{div-add-mod}
@@ -10,7 +9,8 @@ use borrow.Author.Tests.{eqb-true, eq-eqb}
 use lib.Dec.{eqb, leb, ltb}
 use lib.Ieee.{Float, nan}
 use lib.ListN.{length, getD}
-use Rattle.lists.proofs.Tests.{and-left, or-cases}
+use Rattle.lists.specs.Lists.{newOrKept}
+use Rattle.lists.proofs.Tests.{and-left}
 use Rattle.layout.specs.declared.Layout.{Layout}
 use Rattle.layout.specs.Layout.{kindOf, validLayout}
 use Rattle.quantization.specs.Answer.{named}
@@ -18,7 +18,7 @@ use Rattle.line.specs.declared.LineAnswer.the-variants.{Points, Refused as Line
 use Rattle.decoding.specs.Decode.{valuesOf}
 use Rattle.decoding_laws.proofs.Claims.{decodes-each-code}
 use Rattle.card_table.specs.declared.facts.Facts.{Facts}
-use Rattle.card_table.specs.Edition.{editionKnown, leastEdition}
+use Rattle.card_table.specs.Edition.{editionKnown, hasAccess, leastEdition}
 use Rattle.card_table.specs.Facts.{closed, withAccess}
 use Rattle.card_table.specs.Table.{cardSize}
 use Rattle.card_reader.specs.declared.CardReading.{CardReading}
@@ -26,35 +26,10 @@ use Rattle.card_reader.specs.declared.CardReading.the-variants.{Shown, Refused 
 use Rattle.card_reader.proofs.Shown.{passed, same-facts}
 use Rattle.refusal.specs.declared.Written.{Written}
 use Rattle.refusal.specs.declared.Written.the-variants.{Done, Refused}
-use Rattle.card_writer.specs.Writing.{kept}
-use Rattle.card_laws.proofs.Printed.{row-7}
-use Rattle.custody_book.specs.History.{Rewrite, Asked, Story}
-use Rattle.custody_book.specs.Book.{Book, startOf, bookAnswer, bookAfter, bookReading, captured, pointsIn, decodable, bookDecoding, bookValues, bookFrom, book}
-use Rattle.custody_book.specs.Meaning.{readingOf, decodingOf, valuesAfter, refused, notShown, oneOrTwo, oneAboutTwelve, RewriteRight, EachRight, EachRight.none, EachRight.each, atTwo, allAtTwo, ReadingRight, DecodingRight, Meaning}
-
--- ---- editions 1 and 2
-
-data Edition : ℕ → Type 0 where
-  one : Edition 1
-  two : Edition 2
-
-edition : (e : ℕ) → oneOrTwo e ≡ true → Edition e
-edition e h = go (or-cases (eqb e 1) (eqb e 2) h)
-  where
-    go : (eqb e 1 ≡ true) ⊎ (eqb e 2 ≡ true) → Edition e
-    go (inl p) = subst Edition (sym (eqb-true e 1 p)) one
-    go (inr p) = subst Edition (sym (eqb-true e 2 p)) two
-
--- the least edition is above the one asked exactly if 1 is asked about 12 bits
-above : (e : ℕ) (l : Layout) → oneOrTwo e ≡ true → ltb e (leastEdition l) ≡ oneAboutTwelve e l
-unfolding leastEdition
-above e l h = go e (edition e h) (eqb (l .depth) 12)
-  where
-    go : (e : ℕ) → Edition e → (t : Bool) → ltb e (cond t 2 1) ≡ eqb e 1 && t
-    go e one true = refl
-    go e one false = refl
-    go e two true = refl
-    go e two false = refl
+use Rattle.refusal.specs.Written.{accepted}
+use Rattle.custody_book.specs.History.{Rewrite, Asked, Trace}
+use Rattle.custody_book.specs.Book.{Book, startOf, bookAnswer, bookAfter, captured, pointsIn, decodable, bookDecoding, bookValues, bookFrom, book}
+use Rattle.custody_book.specs.Meaning.{readingOf, decodingOf, valuesAfter, refused, notShown, RewriteRight, EachRight, EachRight.none, EachRight.each, acceptedAt, ReadingRight, DecodingRight, Meaning}
 
 -- ---- tests
 
@@ -81,52 +56,48 @@ apart h = let z : _≡_ {A = ℕ} 0 1 = cc in absurd (omega arith)
 
 module _ (f : Facts) (b : Book) (r : Rewrite) where
   abbrev known : Bool
-  known = oneOrTwo (r .edition)
+  known = editionKnown (r .edition)
 
   abbrev under : Bool
-  under = ltb (r .edition) (leastEdition (f .layout))
+  under = ltb (r .edition) (leastEdition f)
 
   abbrev long : Bool
   long = eqb (length (r .output)) cardSize
 
   refused-is : refused (bookAnswer f r) ≡ not (known && not under && long)
-  refused-is = refused-by (editionKnown (r .edition)) under long ∙ ap (λ (k : Bool). not (k && not under && long)) (row-7 (r .edition))
+  refused-is = refused-by known under long
 
   rewrite-right : (w : Written) → bookAnswer f r ≡ w
-      → RewriteRight (f .layout) r (b .card) w (kept w (r .output) (bookAfter w f b (r .edition) .card)) (bookAfter w f b (r .edition) .card)
+      → RewriteRight f r (b .card) w (newOrKept (accepted w) (bookAfter w f b (r .edition) .card) (r .output)) (bookAfter w f b (r .edition) .card)
   rewrite-right w h =
       record {
-        exactly = λ k m. ap refused (sym h) ∙ refused-is ∙ (λ i. not (k i && not under && eq-eqb (length (r .output)) cardSize m i)) ∙ only under ∙ above (r .edition) (f .layout) k;
+        exactly = λ k m. ap refused (sym h) ∙ refused-is ∙ (λ i. not (k i && not under && eq-eqb (length (r .output)) cardSize m i)) ∙ only under;
         others = λ n. ap refused (sym h) ∙ refused-is ∙ lost known under long n;
         unchanged = unchanged w;
         taken = taken w;
       }
     where
-      unchanged : (w : Written) → refused w ≡ true → (kept w (r .output) (bookAfter w f b (r .edition) .card) ≡ r .output) × (bookAfter w f b (r .edition) .card ≡ b .card)
+      unchanged : (w : Written) → refused w ≡ true → (newOrKept (accepted w) (bookAfter w f b (r .edition) .card) (r .output) ≡ r .output) × (bookAfter w f b (r .edition) .card ≡ b .card)
       unchanged Done p = apart (sym p)
       unchanged (Refused n) p = (refl, refl)
 
-      taken : (w : Written) → refused w ≡ false → bookAfter w f b (r .edition) .card ≡ kept w (r .output) (bookAfter w f b (r .edition) .card)
+      taken : (w : Written) → refused w ≡ false → bookAfter w f b (r .edition) .card ≡ newOrKept (accepted w) (bookAfter w f b (r .edition) .card) (r .output)
       taken Done p = refl
       taken (Refused n) p = apart p
 
-each-right : (f : Facts) (b : Book) (rs : List Rewrite) (last : ℕ) (packed : List ℕ) (values : List Float) → EachRight (f .layout) (b .card) rs (bookFrom f b rs last packed values)
+each-right : (f : Facts) (b : Book) (rs : List Rewrite) (last : ℕ) (packed : List ℕ) (values : List Float) → EachRight f (b .card) rs (bookFrom f b rs last packed values)
 each-right f b [] last packed values = none
 each-right f b (r ∷ rs) last packed values =
     each (rewrite-right f b r (bookAnswer f r) refl) (each-right f (bookAfter (bookAnswer f r) f b (r .edition)) rs last packed values)
 
-done-known : (f : Facts) (r : Rewrite) (k : Bool) → editionKnown (r .edition) ≡ k → bookAnswer f r ≡ Done → k ≡ true
-done-known f r true p h = refl
-done-known f r false p h = let d : Refused 7 ≡ Done = (rw p at h) in let z : _≡_ {A = ℕ} 0 1 = cc in absurd (omega arith)
-
 -- ---- the last reading
 
--- what it shows of the first facts, where `ok` says whether every accepted rewrite was at 2
+-- what it shows of the first facts, where `ok` says whether every accepted rewrite was at an edition that has access
 abbrev lastShown : Facts → ℕ → Bool → ℕ → CardReading
 lastShown f access ok last =
     cond (not (editionKnown last)) (NotShown 7)
-    (cond (ltb last (leastEdition (f .layout))) (NotShown 8)
-    (Shown (withAccess f (cond (ok && eqb last 2) access closed))))
+    (cond (ltb last (leastEdition f)) (NotShown 8)
+    (Shown (withAccess f (cond (ok && hasAccess last) access closed))))
 
 same : {A : Type 0} (t : Bool) (x : A) → cond t x x ≡ x
 same true x = refl
@@ -135,30 +106,22 @@ same false x = refl
 shut : (f : Facts) (access : ℕ) (ok : Bool) (last : ℕ) → lastShown f closed ok last ≡ lastShown f access false last
 shut f access ok last = simp same
 
-at-end : (f : Facts) (b : Book) (last : ℕ) (k : Bool) → oneOrTwo last ≡ k → bookReading f b last ≡ lastShown f (b .access) true last
-at-end f b last false k = rw (row-7 last ∙ k) refl
-at-end f b last true k = go last (edition last k)
-  where
-    go : (e : ℕ) → Edition e → bookReading f b e ≡ lastShown f (b .access) true e
-    go e one = refl
-    go e two = refl
+-- an accepted rewrite at an edition leaves the access, or closes it
+kept-or-shut : (f : Facts) (access : ℕ) (t ok : Bool) (last : ℕ) → lastShown f (cond t access closed) ok last ≡ lastShown f access (t && ok) last
+kept-or-shut f access true ok last = refl
+kept-or-shut f access false ok last = shut f access ok last
 
 reading-from : (f : Facts) (b : Book) (rs : List Rewrite) (last : ℕ) (packed : List ℕ) (values : List Float)
-    → readingOf (bookFrom f b rs last packed values) ≡ lastShown f (b .access) (allAtTwo rs (bookFrom f b rs last packed values)) last
-reading-from f b [] last packed values = at-end f b last (oneOrTwo last) refl
-reading-from f b (r ∷ rs) last packed values = go (bookAnswer f r) (done-known f r (editionKnown (r .edition)) refl) (λ b′. reading-from f b′ rs last packed values)
+    → readingOf (bookFrom f b rs last packed values) ≡ lastShown f (b .access) (acceptedAt hasAccess rs (bookFrom f b rs last packed values)) last
+reading-from f b [] last packed values = refl
+reading-from f b (r ∷ rs) last packed values = go (bookAnswer f r) (λ b′. reading-from f b′ rs last packed values)
   where
-    accepted : (e : ℕ) → Edition e → ((b′ : Book) → readingOf (bookFrom f b′ rs last packed values) ≡ lastShown f (b′ .access) (allAtTwo rs (bookFrom f b′ rs last packed values)) last)
-        → readingOf (bookFrom f (bookAfter Done f b e) rs last packed values) ≡ lastShown f (b .access) (eqb e 2 && allAtTwo rs (bookFrom f (bookAfter Done f b e) rs last packed values)) last
-    accepted e one ih = ih (bookAfter Done f b 1) ∙ shut f (b .access) (allAtTwo rs (bookFrom f (bookAfter Done f b 1) rs last packed values)) last
-    accepted e two ih = ih (bookAfter Done f b 2)
-
-    go : (w : Written) → (w ≡ Done → editionKnown (r .edition) ≡ true)
-        → ((b′ : Book) → readingOf (bookFrom f b′ rs last packed values) ≡ lastShown f (b′ .access) (allAtTwo rs (bookFrom f b′ rs last packed values)) last)
+    go : (w : Written)
+        → ((b′ : Book) → readingOf (bookFrom f b′ rs last packed values) ≡ lastShown f (b′ .access) (acceptedAt hasAccess rs (bookFrom f b′ rs last packed values)) last)
         → readingOf (bookFrom f (bookAfter w f b (r .edition)) rs last packed values)
-        ≡ lastShown f (b .access) (atTwo w (r .edition) && allAtTwo rs (bookFrom f (bookAfter w f b (r .edition)) rs last packed values)) last
-    go (Refused n) k ih = ih b
-    go Done k ih = accepted (r .edition) (edition (r .edition) (sym (row-7 (r .edition)) ∙ k refl)) ih
+        ≡ lastShown f (b .access) ((refused w || hasAccess (r .edition)) && acceptedAt hasAccess rs (bookFrom f (bookAfter w f b (r .edition)) rs last packed values)) last
+    go (Refused n) ih = ih b
+    go Done ih = ih (bookAfter Done f b (r .edition)) ∙ kept-or-shut f (b .access) (hasAccess (r .edition)) (acceptedAt hasAccess rs (bookFrom f (bookAfter Done f b (r .edition)) rs last packed values)) last
 
 -- refused, by its two tests
 not-shown-by : (k l : Bool) (g : Facts) → notShown (cond (not k) (NotShown 7) (cond l (NotShown 8) (Shown g))) ≡ not (k && not l)
@@ -196,21 +159,21 @@ module _ (a : Asked) where
   abbrev f : Facts
   f = a .facts
 
-  abbrev s : Story
+  abbrev s : Trace
   s = bookFrom f (startOf (a .first) f) (a .rewrites) (a .last) (a .packed) (a .values)
 
   -- the facts that are shown, if any are
   abbrev seen : Facts
-  seen = withAccess f (cond (allAtTwo (a .rewrites) s && eqb (a .last) 2) (f .access) closed)
+  seen = withAccess f (cond (acceptedAt hasAccess (a .rewrites) s && hasAccess (a .last)) (f .access) closed)
 
   abbrev least : Bool
-  least = ltb (a .last) (leastEdition (f .layout))
+  least = ltb (a .last) (leastEdition f)
 
-  reading-is : readingOf s ≡ lastShown f (f .access) (allAtTwo (a .rewrites) s) (a .last)
+  reading-is : readingOf s ≡ lastShown f (f .access) (acceptedAt hasAccess (a .rewrites) s) (a .last)
   reading-is = reading-from f (startOf (a .first) f) (a .rewrites) (a .last) (a .packed) (a .values)
 
-  refused-as : notShown (readingOf s) ≡ not (oneOrTwo (a .last) && not least)
-  refused-as = ap notShown reading-is ∙ not-shown-by (editionKnown (a .last)) least seen ∙ ap (λ (k : Bool). not (k && not least)) (row-7 (a .last))
+  refused-as : notShown (readingOf s) ≡ not (editionKnown (a .last) && not least)
+  refused-as = ap notShown reading-is ∙ not-shown-by (editionKnown (a .last)) least seen
 
   shown-is : (g : Facts) → readingOf s ≡ Shown g → seen ≡ g
   shown-is g h =
@@ -223,7 +186,7 @@ module _ (a : Asked) where
   reading-right : ReadingRight a s
   reading-right =
       record {
-        exactly = λ k. refused-as ∙ ap (λ (t : Bool). not (t && not least)) k ∙ not-not least ∙ above (a .last) (f .layout) k;
+        exactly = λ k. refused-as ∙ ap (λ (t : Bool). not (t && not least)) k ∙ not-not least;
         others = λ k. refused-as ∙ ap (λ (t : Bool). not (t && not least)) k;
         first = λ g h. let e = sym (shown-is g h) in (
           (λ i. e i .layout),
@@ -235,7 +198,7 @@ module _ (a : Asked) where
       }
 
   decoded-by : (g : Facts) → readingOf s ≡ Shown g → (t : Bool) → decodable (f .layout) (a .packed) (a .values) ≡ t
-      → (decodingOf s ≡ cond (not t) (LineRefused 13) (Points (pointsIn (f .layout) (a .packed)))) × (valuesAfter s ≡ cond (not t) (a .values) (valuesOf (f .layout) (a .packed)))
+      → (decodingOf s ≡ cond (not t) (LineRefused 13) (Points (pointsIn (f .layout) (a .packed)))) × (valuesAfter s ≡ newOrKept t (valuesOf (f .layout) (a .packed)) (a .values))
   decoded-by g h t d =
       let r = h ∙ ap Shown (sym (shown-is g h)) in (
         decoding-from f (a .last) (a .packed) (a .values) (startOf (a .first) f) (a .rewrites)
@@ -243,7 +206,7 @@ module _ (a : Asked) where
             ∙ ap (λ (t : Bool). cond (not t) (LineRefused 13) (Points (pointsIn (f .layout) (a .packed)))) d,
         values-from f (a .last) (a .packed) (a .values) (startOf (a .first) f) (a .rewrites)
             ∙ ap (λ (x : CardReading). bookValues x (a .packed) (a .values)) r
-            ∙ ap (λ (t : Bool). cond (not t) (a .values) (valuesOf (f .layout) (a .packed))) d,
+            ∙ ap (λ (t : Bool). newOrKept t (valuesOf (f .layout) (a .packed)) (a .values)) d,
       )
 
   all-decoded : (g : Facts) → readingOf s ≡ Shown g → captured (f .layout) (a .packed) ≡ true → length (a .values) ≡ 3 * pointsIn (f .layout) (a .packed)

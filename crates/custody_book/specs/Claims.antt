@@ -10,6 +10,7 @@ use Rattle.custody_book.specs.History.{Asked}
 use Rattle.custody_book.specs.Book.{book}
 use Rattle.custody_book.specs.Calls.{calls}
 use Rattle.custody_book.specs.Meaning.{Meaning}
+use Rattle.custody_book.specs.Printed.{Printed}
 
 -- facts valid at the first edition are written into an output as long as a card: from there on calls and book agree, whatever is asked
 abbrev pub Agrees : Type 0
@@ -18,3 +19,7 @@ Agrees = (a : Asked) (output : List ℕ) → validAt (a .first) (a .facts) ≡ t
 -- and so what is to be seen is what demand 3 asks for
 abbrev pub Means : Type 0
 Means = (a : Asked) (output : List ℕ) → validAt (a .first) (a .facts) ≡ true → length output ≡ cardSize → Meaning a (calls a output)
+
+-- in the customer's words too
+abbrev pub MeansPrinted : Type 0
+MeansPrinted = (a : Asked) (output : List ℕ) → validAt (a .first) (a .facts) ≡ true → length output ≡ cardSize → Printed a (calls a output)

@@ -21,13 +21,13 @@ pub record Asked : Type 0 where
   pub packed : List ℕ
   pub values : List Float
 
--- what is to be seen from the first card on: of each rewrite its answer, and the output and the card after it; at the end the last reading, the decoding's answer, and the line of floats after it
-pub data Story : Type 0 where
-  ended : (reading : CardReading) (decoding : LineAnswer) (values : List Float) → Story
-  rewritten : (answer : Written) (output card : List ℕ) → Story → Story
+-- the trace of what is to be seen from the first card on: of each rewrite its answer, and the output and the card after it; at the end the last reading, the decoding's answer, and the line of floats after it
+pub data Trace : Type 0 where
+  ended : (reading : CardReading) (decoding : LineAnswer) (values : List Float) → Trace
+  rewritten : (answer : Written) (output card : List ℕ) → Trace → Trace
 
 -- and all in all: the first writing's answer, the card that it left, and what came after
 pub record History : Type 0 where
   pub answer : Written
   pub card : List ℕ
-  pub story : Story
+  pub trace : Trace

@@ -1,11 +1,12 @@
 -- What it means that the lists fit together, and what is then left. Assumes nothing.
 use mathlib.Core.Path.{_≡_, refl, ap, _∙_}
-use mathlib.Core.Bool.{Bool, true, false, _&&_, cond}
+use mathlib.Core.Bool.{Bool, true, false, _&&_}
 use mathlib.Core.List.{List}
 use Prim.Native.Nat.{ℕ}
 use borrow.Author.Tests.{eqb-true}
 use lib.Dec.{eqb}
 use lib.ListN.{length}
+use Rattle.lists.specs.Lists.{newOrKept}
 use Rattle.lists.proofs.Tests.{and-left, and-right, and3}
 use Rattle.card_table.specs.Table.{cardSize}
 use Rattle.custody_book.specs.History.{Rewrite}
@@ -38,9 +39,9 @@ module _ (first card editions lengths outputs answers : List ℕ) where
   abbrev Left : Bool → (card outputs answers : List ℕ) → Type 0
   Left r card′ outputs′ answers′ =
       (r ≡ fits)
-      × (card′ ≡ cond fits (cardAfterAll first rs) card)
-      × (outputs′ ≡ cond fits (outputsAfterAll first rs) outputs)
-      × (answers′ ≡ cond fits (answersAfterAll first rs) answers)
+      × (card′ ≡ newOrKept fits (cardAfterAll first rs) card)
+      × (outputs′ ≡ newOrKept fits (outputsAfterAll first rs) outputs)
+      × (answers′ ≡ newOrKept fits (answersAfterAll first rs) answers)
 
   pub misfit : fits ≡ false → Left false card outputs answers
   misfit h = rw h (refl, refl, refl, refl)

@@ -7,12 +7,13 @@ use native.Mathlib.Omega.{arith}
 use borrow.Author.Tests.{eqb-true}
 use lib.Dec.{eqb}
 use lib.ListN.{length}
+use Rattle.lists.specs.Lists.{newOrKept}
 use Rattle.card_table.specs.Table.{cardSize}
 use Rattle.card_reader.specs.declared.CardReading.{CardReading}
 use Rattle.card_reader.specs.declared.CardReading.the-variants.{Shown, Refused as NotShown}
 use Rattle.card_reader.specs.Reading.{readCard}
 use Rattle.refusal.specs.declared.Written.the-variants.{Done, Refused}
-use Rattle.card_writer.specs.Writing.{kept}
+use Rattle.refusal.specs.Written.{accepted}
 use Rattle.card.specs.Rewriting.{rewriteAnswer, rewriteOutput}
 use Rattle.card_laws.specs.Claims.{thenLength}
 use Rattle.card_laws.proofs.Claims.{rewrites-in-order}
@@ -36,7 +37,7 @@ module _ (card : List ℕ) (e : ℕ) (out : List ℕ) where
   Left n out′ card′ =
       (n ≡ numberOf (rewriteAnswer card e (length out)))
       × (out′ ≡ rewriteOutput card e out)
-      × (card′ ≡ kept (rewriteAnswer card e (length out)) card (rewriteOutput card e out))
+      × (card′ ≡ newOrKept (accepted (rewriteAnswer card e (length out))) (rewriteOutput card e out) card)
 
   pub left-refused : (n : ℕ) (out′ : List ℕ) → rewriteAnswer card e (length out) ≡ Refused n → out′ ≡ rewriteOutput card e out → Left n out′ card
   left-refused n out′ h k = (rw h refl, k, rw h refl)

@@ -1,7 +1,7 @@
 // The rewrites of one card, run one after the other (document 01, "The book of one card").
 ghost use mathlib.Core.Path.{_≡_};
-ghost use mathlib.Core.Bool.{cond};
 ghost use lib.ListN.{length};
+ghost use Rattle.lists.specs.Lists.{newOrKept};
 ghost use Rattle.custody_rewrites.specs.Lists.{fitting, rewritesOf};
 ghost use Rattle.custody_rewrites.specs.Rewriting.{cardAfterAll, outputsAfterAll, answersAfterAll};
 use card::Card;
@@ -23,14 +23,14 @@ pub fn rewrite_all(
     ensures { λ r. ⌜ (let fits = fitting (length (now (card .entry))) (now (editions .entry)) (now (lengths .entry)) (length (now (outputs .entry))) (length (now (answers .entry))) in
         let rs = rewritesOf (now (editions .entry)) (now (lengths .entry)) (now (outputs .entry)) in
         (r ≡ fits)
-        × (now (card .exit) ≡ cond fits (cardAfterAll (now (first .entry)) rs) (now (card .entry)))
-        × (now (outputs .exit) ≡ cond fits (outputsAfterAll (now (first .entry)) rs) (now (outputs .entry)))
-        × (now (answers .exit) ≡ cond fits (answersAfterAll (now (first .entry)) rs) (now (answers .entry)))) ⌝ }
+        × (now (card .exit) ≡ newOrKept fits (cardAfterAll (now (first .entry)) rs) (now (card .entry)))
+        × (now (outputs .exit) ≡ newOrKept fits (outputsAfterAll (now (first .entry)) rs) (now (outputs .entry)))
+        × (now (answers .exit) ≡ newOrKept fits (answersAfterAll (now (first .entry)) rs) (now (answers .entry)))) ⌝ }
 {
     if !fits::fits(card.len(), editions, lengths, outputs.len(), answers.len()) {
         return false;
     }
-    rewrites::store(first, card);
+    bytes::copy(first, card);
     rewrites::rewrite_each(card, editions, lengths, outputs, answers);
     true
 }

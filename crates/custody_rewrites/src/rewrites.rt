@@ -2,36 +2,25 @@
 ghost use mathlib.Core.Path.{_≡_};
 ghost use lib.ListN.{length};
 ghost use Rattle.card_table.specs.Table.{cardSize};
-ghost use Rattle.card_writer.specs.Writing.{kept};
+ghost use Rattle.lists.specs.Lists.{newOrKept};
+ghost use Rattle.refusal.specs.Written.{accepted};
 ghost use Rattle.card.specs.Rewriting.{rewriteAnswer, rewriteOutput};
 ghost use Rattle.custody_rewrites.specs.Rewriting.{cardAfterAll, outputsAfterAll, answersAfterAll};
 ghost use Rattle.custody_rewrites.specs.Lists.{sum, numberOf, rewritesOf};
 use refusal::Written;
-
-// Stores a card.
-pub(crate) fn store(bytes: &[u8], out: &mut [u8])
-    requires { ⌜ length (now bytes) ≡ length (now out) ⌝ }
-    ensures { λ r. ⌜ now (out .exit) ≡ now (bytes .entry) ⌝ }
-{
-    let mut i: usize = 0;
-    while i < out.len() {
-        out[i] = bytes[i];
-        i += 1;
-    }
-}
 
 // One rewrite of the card into an output. Accepted, the output is the card from then on. Answers 0, or the refusal's number.
 fn rewrite(card: &mut [u8], edition: u8, out: &mut [u8]) -> u8
     requires { ⌜ length (now card) ≡ cardSize ⌝ }
     ensures { λ r. ⌜ (r ≡ numberOf (rewriteAnswer (now (card .entry)) edition (length (now (out .entry)))))
         × (now (out .exit) ≡ rewriteOutput (now (card .entry)) edition (now (out .entry)))
-        × (now (card .exit) ≡ kept (rewriteAnswer (now (card .entry)) edition (length (now (out .entry)))) (now (card .entry)) (rewriteOutput (now (card .entry)) edition (now (out .entry)))) ⌝ }
+        × (now (card .exit) ≡ newOrKept (accepted (rewriteAnswer (now (card .entry)) edition (length (now (out .entry))))) (rewriteOutput (now (card .entry)) edition (now (out .entry))) (now (card .entry))) ⌝ }
 {
     let answer = card::rewrite(card, edition, out);
     match answer {
         Written::Refused(number) => number,
         Written::Done => {
-            store(out, card);
+            bytes::copy(out, card);
             0
         }
     }

@@ -8,13 +8,14 @@ use native.Mathlib.Omega.{arith}
 use borrow.Author.Tests.{leb-true, lt-ltb, le-ltb}
 use lib.Dec.{eqb, leb}
 use lib.ListN.{length, length-append, take, drop}
+use Rattle.lists.specs.Lists.{newOrKept}
 use Rattle.lists.proofs.Tests.{and-right, pass, stop}
 use Rattle.card_table.specs.Table.{cardSize}
 use Rattle.stack.specs.Stack.{cardsIn, wholeStack, cardAt}
 use Rattle.listing.specs.List.{cardLine, firstLine, cardLines, listText}
 use Rattle.listing.specs.declared.Text.{Text}
 use Rattle.listing.specs.declared.Text.the-variants.{Written, Refused}
-use Rattle.listing.specs.Text.{longestList, textAnswer, kept, textOutput}
+use Rattle.listing.specs.Text.{longestList, textAnswer, accepted, textOutput}
 use Rattle.text_writer.specs.Put.{Put}
 use Rattle.text_writer.proofs.Puts.{put-join, put-as, front}
 use Rattle.listing.proofs.Longest.{card-longest, first-longest}
@@ -79,7 +80,7 @@ module _ (s : List ℕ) where
   unfolding textAnswer textOutput
   refused out h =
       let e = sym (stop _ (lt-ltb (length out) longestList h)) in
-      (e, ap (λ (a : Text). kept a out (listText s)) e)
+      (e, ap (λ (a : Text). newOrKept (accepted a) (listText s ++ drop (length (listText s)) out) out) e)
 
   written : {out ys : List ℕ} {next : ℕ} → 42000 ≤ length out → Put (listText s) 0 out ys next
       → (Written next ≡ textAnswer (listText s) (length out)) × (ys ≡ textOutput (listText s) out)
@@ -87,7 +88,7 @@ module _ (s : List ℕ) where
   written {out} {ys} {next} h p =
       let f = front (omega (arith, list-longest)) p in
       let e = ap Written (f .0) ∙ sym (pass (Refused 13) (le-ltb (length out) longestList h) refl) in
-      (e, f .1 ∙ ap (λ (a : Text). kept a out (listText s)) e)
+      (e, f .1 ∙ ap (λ (n : ℕ). listText s ++ drop n out) (f .0) ∙ ap (λ (a : Text). newOrKept (accepted a) (listText s ++ drop (length (listText s)) out) out) e)
 
   module _ {out ys : List ℕ} {m : ℕ} (h : 42000 ≤ length out) (p : Put (firstLine (length s)) 0 out ys m) where
     pub written-one : wholeStack (length s) ≡ false → (Written m ≡ textAnswer (listText s) (length out)) × (ys ≡ textOutput (listText s) out)
@@ -99,17 +100,17 @@ module _ (s : List ℕ) where
 
   -- an output that every list fits in is not refused, and its front is then the text
   module _ (before : List ℕ) (h : 42000 ≤ length before) where
-    accepted : textAnswer (listText s) (length before) ≡ Written (length (listText s))
+    answer-is : textAnswer (listText s) (length before) ≡ Written (length (listText s))
     unfolding textAnswer
-    accepted = pass (Refused 13) (le-ltb (length before) longestList h) refl
+    answer-is = pass (Refused 13) (le-ltb (length before) longestList h) refl
 
     pub not-refused : (k : ℕ) → Refused k ≡ textAnswer (listText s) (length before) → ⊥
-    not-refused k e = let f : Refused k ≡ Written (length (listText s)) = e ∙ accepted in let z : _≡_ {A = ℕ} 0 1 = cc in omega arith
+    not-refused k e = let f : Refused k ≡ Written (length (listText s)) = e ∙ answer-is in let z : _≡_ {A = ℕ} 0 1 = cc in omega arith
 
     pub leaves : (n : ℕ) {after : List ℕ} → Written n ≡ textAnswer (listText s) (length before) → after ≡ textOutput (listText s) before
         → (n ≡ length (listText s)) × (n ≤ length before) × (after ≡ listText s ++ drop n before)
     unfolding textOutput
     leaves n {after} e o =
-        let f : Written n ≡ Written (length (listText s)) = e ∙ accepted in
+        let f : Written n ≡ Written (length (listText s)) = e ∙ answer-is in
         let z : n ≡ length (listText s) = cc in
-        (z, omega (arith, list-longest), o ∙ ap (λ (a : Text). kept a before (listText s)) (sym e))
+        (z, omega (arith, list-longest), o ∙ ap (λ (a : Text). newOrKept (accepted a) (listText s ++ drop (length (listText s)) before) before) (sym e) ∙ ap (λ (k : ℕ). listText s ++ drop k before) (sym z))

@@ -10,7 +10,7 @@ use lib.ListN.{length, length-append, getD}
 use Rattle.lists.proofs.Tests.{and-left, and-right, and3, pass, stop}
 use Rattle.layout.specs.Layout.{validLayout}
 use Rattle.card_table.specs.declared.facts.Facts.{Facts}
-use Rattle.card_table.specs.Facts.{sideKnown, accessKnown, factsValid}
+use Rattle.card_table.specs.Facts.{largestSide, sideKnown, accessKnown, factsValid}
 use Rattle.card_table.specs.Edition.{editionKnown, leastEdition}
 use Rattle.card_table.specs.Table.{cardSize}
 use Rattle.card_reader.specs.declared.CardReading.{CardReading}
@@ -36,7 +36,7 @@ length-word access = by (eqb access 2) (eqb access 1)
     by false false = lit≤ tt
 
 side-most : (side : ℕ) → sideKnown side ≡ true → length (decimal side) ≤ 4
-side-most side h = length-decimal 3 side (omega (arith, leb-true side 4096 (and-right (leb 1 side) (leb side 4096) h)))
+side-most side h = length-decimal 3 side (omega (arith, leb-true side largestSide (and-right (leb 1 side) (leb side largestSide) h)))
 
 facts-longest : (f : Facts) → factsValid f ≡ true → length (readingLine (Shown f)) ≤ 41
 unfolding factsValid
@@ -63,7 +63,7 @@ facts-longest f v =
 front-valid : (b : List ℕ) (f : Facts) → frontRight b f ≡ true → factsValid f ≡ true
 unfolding frontRight
 front-valid b f h =
-    let a = eqb (getD b 0 0) (leastEdition (f .layout)) && leb (getD b 0 0) (writerOf b) in
+    let a = eqb (getD b 0 0) (leastEdition f) && leb (getD b 0 0) (writerOf b) in
     let s = eqb (getD b 7 0) 0 in
     let e = eqb (getD b 11 0) 0 in
     and-right a (factsValid f) (and-left (a && factsValid f) s (and-left (a && factsValid f && s) e h))

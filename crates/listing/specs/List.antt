@@ -4,16 +4,13 @@ use mathlib.Core.Bool.{cond}
 use mathlib.Core.List.{List, [], _++_}
 use lib.ListN.{length}
 use Rattle.refusal.specs.Refusal.{wrongLength}
+use Rattle.card_table.specs.Edition.{newest}
 use Rattle.card_reader.specs.declared.CardReading.{CardReading}
 use Rattle.card_reader.specs.declared.CardReading.the-variants.{Shown, Refused}
 use Rattle.card_reader.specs.Reading.{readCard}
 use Rattle.stack.specs.Stack.{cardsIn, wholeStack, cardAt}
 use Rattle.text_writer.specs.Decimal.{decimal}
 use Rattle.listing.specs.Words.{space, by, newline, cardsWord, stackRefused, cardRefused, accessWord}
-
--- the edition at which a stack is listed
-abbrev pub listEdition : ℕ
-listEdition = 2
 
 -- `ITEM WORD `, with a space behind each
 unfoldable pub itemText : ℕ → ℕ → List ℕ
@@ -32,9 +29,9 @@ abbrev pub readingLine : CardReading → List ℕ
 readingLine (Shown f) = itemText (f .item) (f .access) ++ sizeText (f .width) (f .height)
 readingLine (Refused n) = numberLine cardRefused n
 
--- the line of a card
+-- the line of a card: a stack is listed at the newest edition
 unfoldable pub cardLine : List ℕ → List ℕ
-cardLine card = readingLine (readCard card listEdition)
+cardLine card = readingLine (readCard card newest)
 
 -- the first line for so many bytes: `cards N`, or `stack refused 1`
 unfoldable pub firstLine : ℕ → List ℕ

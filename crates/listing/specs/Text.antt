@@ -1,9 +1,10 @@
 -- What writing a text into an output answers, and what the output then holds. Assumes nothing.
 use Prim.Native.Nat.{ℕ}
-use mathlib.Core.Bool.{cond}
+use mathlib.Core.Bool.{Bool, true, false, cond}
 use mathlib.Core.List.{List, _++_}
 use lib.Dec.{ltb}
 use lib.ListN.{length, drop}
+use Rattle.lists.specs.Lists.{newOrKept}
 use Rattle.refusal.specs.Refusal.{wrongLineOrOutput}
 use Rattle.listing.specs.declared.Text.{Text}
 use Rattle.listing.specs.declared.Text.the-variants.{Written, Refused}
@@ -20,10 +21,10 @@ longestList = 42000
 unfoldable pub textAnswer : List ℕ → ℕ → Text
 textAnswer text bytes = cond (ltb bytes longestList) (Refused wrongLineOrOutput) (Written (length text))
 
--- an output afterwards: the text, and behind it what was there before; or as before where it is refused
-abbrev pub kept : Text → List ℕ → List ℕ → List ℕ
-kept (Written n) before text = text ++ drop n before
-kept (Refused k) before text = before
+abbrev pub accepted : Text → Bool
+accepted (Written n) = true
+accepted (Refused k) = false
 
+-- the output afterwards: the text, and behind it what was there before; or as before where it is refused
 unfoldable pub textOutput : List ℕ → List ℕ → List ℕ
-textOutput text before = kept (textAnswer text (length before)) before text
+textOutput text before = newOrKept (accepted (textAnswer text (length before))) (text ++ drop (length text) before) before

@@ -9,10 +9,8 @@ use card_reader::CardReading;
 use card_reader::read;
 use card_table::Card;
 use card_table::Facts;
+use card_table::edition;
 use stack::whole;
-
-// The edition at which a stack is listed. specs/List.antt has the same.
-const EDITION: u8 = 2;
 
 // Stores the line of a card's facts.
 fn put_facts(facts: Facts, at: usize, out: &mut [u8]) -> usize
@@ -22,11 +20,11 @@ fn put_facts(facts: Facts, at: usize, out: &mut [u8]) -> usize
     put_size(facts.width, facts.height, next, out)
 }
 
-// Stores the line of a card.
+// Stores the line of a card, as the newest edition shows it.
 pub(crate) fn put_card(card: &[u8], at: usize, out: &mut [u8]) -> usize
     ensures { λ r. ⌜ Put (cardLine (now (card .entry))) at (now (out .entry)) (now (out .exit)) r ⌝ }
 {
-    let reading = read(card, EDITION);
+    let reading = read(card, edition::NEWEST);
     match reading {
         CardReading::Refused(number) => put_line(b"- refused ", number as u64, at, out),
         CardReading::Shown(facts) => put_facts(facts, at, out),

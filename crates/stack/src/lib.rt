@@ -1,8 +1,6 @@
 // A stack of cards, and an item found in it (document 01, "Card" and "Numbers on the refusal slip").
 ghost use mathlib.Core.Path.{_≡_};
 ghost use denote.Ref.{ptr};
-ghost use lib.ListN.{length};
-ghost use Rattle.card_table.specs.Table.{cardSize};
 ghost use Rattle.stack.specs.Stack.{wholeStack};
 ghost use Rattle.stack.specs.Finding.{located, part, placed};
 use card_table::Card;
@@ -25,10 +23,12 @@ pub fn whole(bytes: usize) -> bool
 pub fn locate(stack: &[u8], edition: u8, item: u64) -> Found
     ensures { λ r. ⌜ r ≡ located (now (stack .entry)) edition item ⌝ }
 {
-    if !whole(stack.len()) {
+    let complete = whole(stack.len());
+    let known = edition::known(edition);
+    if !complete {
         return Found::Refused(refusal::WRONG_LENGTH);
     }
-    if !edition::known(edition) {
+    if !known {
         return Found::Refused(refusal::UNKNOWN_EDITION);
     }
     let cards = stack.len() / Card::SIZE;

@@ -5,6 +5,7 @@ use native.Mathlib.Omega.{arith}
 use denote.Ref.{now}
 use lib.ListN.{length}
 use borrow.Author.Tests.{not-true, not-false}
+use Rattle.card_writer.proofs.Copy.{copied}
 use Rattle.custody_rewrites.specs.Lists.{fitting}
 use Rattle.custody_rewrites.proofs.Fitting.{parts, misfit, rewritten}
 use borrow.Author.Needs.{needs}
@@ -15,6 +16,13 @@ use Rattle.custody_rewrites.proofs.rewrite_all.Tie as tie
 fits : (c : tie.Else1) → let a = c .before .before .before .before .before .before .before .args in fitting (length (now (a .card))) (now (a .editions)) (now (a .lengths)) (length (now (a .outputs))) (length (now (a .answers))) ≡ true
 fits c = sym (c .before .fits2 .ensures) ∙ not-false (c .before .fits2 .result) (c .if1 .left)
 
+-- so the card's place is as long as the first card
+long : (c : tie.After-copy-arg2) → let a = c .before .before .before .before .before .before .before .before .before .args in length (now (a .card)) ≡ length (now (a .first))
+long c =
+    let e = c .before .before in
+    let a = e .before .before .before .before .before .before .before .args in
+    omega (arith, parts (length (now (a .card))) (now (a .editions)) (now (a .lengths)) (length (now (a .outputs))) (length (now (a .answers))) (fits e) .0)
+
 fits-requires : tie.Need-fits-requires
 fits-requires c κs = search needs
 
@@ -23,11 +31,8 @@ returns c =
     let a = c .before .before .before .before .before .before .before .args in
     misfit (now (a .first)) (now (a .card)) (now (a .editions)) (now (a .lengths)) (now (a .outputs)) (now (a .answers)) (sym (c .before .fits2 .ensures) ∙ not-true (c .before .fits2 .result) (c .if1 .taken))
 
-store-requires : tie.Need-store-requires
-store-requires c κs =
-    let e = c .before .before in
-    let a = e .before .before .before .before .before .before .before .args in
-    omega (arith, parts (length (now (a .card))) (now (a .editions)) (now (a .lengths)) (length (now (a .outputs))) (length (now (a .answers))) (fits e) .0)
+copy-requires : tie.Need-copy-requires
+copy-requires c κs = omega (arith, long c)
 
 rewrite-each-requires : tie.Need-rewrite-each-requires
 rewrite-each-requires c κs =
@@ -35,7 +40,7 @@ rewrite-each-requires c κs =
     let e = s .before .before .before in
     let a = e .before .before .before .before .before .before .before .args in
     let p = parts (length (now (a .card))) (now (a .editions)) (now (a .lengths)) (length (now (a .outputs))) (length (now (a .answers))) (fits e) in
-    (s .store .kept .1 .0 ∙ p .0, p .1, p .2, p .3)
+    (s .copy .kept .1 .0 ∙ p .0, p .1, p .2, p .3)
 
 same-length : tie.Need-same-length
 same-length c = search needs
@@ -52,7 +57,7 @@ returns-2 c =
     let s = r .before .before .before .before .before .before in
     let e = s .before .before .before in
     let a = e .before .before .before .before .before .before .before .args in
-    rewritten (now (a .first)) (now (a .card)) (now (a .editions)) (now (a .lengths)) (now (a .outputs)) (now (a .answers)) (fits e) _ _ _ _ (s .store .ensures) (r .rewrite-each .ensures)
+    rewritten (now (a .first)) (now (a .card)) (now (a .editions)) (now (a .lengths)) (now (a .outputs)) (now (a .answers)) (fits e) _ _ _ _ (s .copy .ensures .1 ∙ copied (now (a .first)) (now (a .card)) (long (s .before))) (r .rewrite-each .ensures)
 
 pub rewrite-all-spec : {M : Type 1} → statement M
 rewrite-all-spec =
@@ -60,7 +65,7 @@ rewrite-all-spec =
     (tie.spec
     fits-requires
     returns
-    store-requires
+    copy-requires
     rewrite-each-requires
     same-length
     same-length-2

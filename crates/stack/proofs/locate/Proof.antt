@@ -14,10 +14,10 @@ use Rattle.stack.proofs.locate.Statement.{statement}
 use Rattle.stack.proofs.locate.Tie as tie
 
 abbrev Inv-loop : tie.InvT-loop
-Inv-loop stack edition item cards i₀ i = (i ≤ cards) × (first (hasItem stack edition item) 0 cards ≡ first (hasItem stack edition item) i (cards - i))
+Inv-loop stack edition item complete known cards i₀ i = (i ≤ cards) × (first (hasItem stack edition item) 0 cards ≡ first (hasItem stack edition item) i (cards - i))
 
 abbrev μ-loop : tie.MeasureT-loop
-μ-loop stack edition item cards i₀ i = cards - i
+μ-loop stack edition item complete known cards i₀ i = cards - i
 
 -- the two rows before the search are passed
 found :
@@ -25,22 +25,22 @@ found :
     → let a = c .before .before .before .before .before .args in
     located (a .stack .now) (a .edition) (a .item) ≡ first (hasItem (a .stack .now) (a .edition) (a .item)) 0 (cardsIn (length (a .stack .now)))
 found c =
-    let w = c .before .before in
-    located-first _ _ _ (sym (ap not (w .before .whole .ensures)) ∙ w .if1 .left) (sym (ap not (c .before .known .ensures)) ∙ c .if2 .left)
+    let w = c .before in
+    located-first _ _ _ (sym (ap not (w .before .before .whole .ensures)) ∙ w .if1 .left) (sym (ap not (w .before .known .ensures)) ∙ c .if2 .left)
 
 whole-requires : tie.Need-whole-requires Inv-loop μ-loop
 whole-requires c κs = search needs
 
-returns : tie.Need-returns Inv-loop μ-loop
-returns c = sym (located-1 _ _ _ (sym (ap not (c .before .whole .ensures)) ∙ c .if1 .taken))
-
 known-requires : tie.Need-known-requires Inv-loop μ-loop
 known-requires c κs = search needs
 
+returns : tie.Need-returns Inv-loop μ-loop
+returns c = sym (located-1 _ _ _ (sym (ap not (c .before .before .whole .ensures)) ∙ c .if1 .taken))
+
 returns-2 : tie.Need-returns-2 Inv-loop μ-loop
 returns-2 c =
-    let w = c .before .before in
-    sym (located-7 _ _ _ (sym (ap not (w .before .whole .ensures)) ∙ w .if1 .left) (sym (ap not (c .before .known .ensures)) ∙ c .if2 .taken))
+    let w = c .before in
+    sym (located-7 _ _ _ (sym (ap not (w .before .before .whole .ensures)) ∙ w .if1 .left) (sym (ap not (w .before .known .ensures)) ∙ c .if2 .taken))
 
 loop-holds : tie.Need-loop-holds Inv-loop μ-loop
 loop-holds c = (omega arith, ap (first _ 0) (sym (sub-zero _)))
@@ -91,8 +91,8 @@ locate-spec =
     Inv-loop
     μ-loop
     whole-requires
-    returns
     known-requires
+    returns
     returns-2
     loop-holds
     mul-start

@@ -3,7 +3,7 @@ use denote.Ref.{now}
 use Prim.Native.Nat.{_≤_, _-_, _+_}
 use mathlib.Core.Path.{_≡_, refl, _∙_}
 use native.Mathlib.Omega.{arith}
-use lib.ListN.{length, length-set, getD}
+use lib.ListN.{length, length-set}
 use Rattle.text_writer.proofs.Puts.{stored, stored-none, stored-next, stored-all}
 use Rattle.text_writer.proofs.put.Statement.{statement}
 use Rattle.text_writer.proofs.put.Tie as tie

@@ -1,11 +1,21 @@
 -- `custody_rewrites::rewrites::rewrite` meets its contract, by what the rewrite answered. Assumes nothing.
-use mathlib.Core.Path.{sym, _∙_}
+use mathlib.Core.Path.{_≡_, sym, _∙_}
 use native.Mathlib.Omega.{arith}
 use denote.Ref.{now}
+use lib.ListN.{length}
+use Rattle.card_writer.proofs.Copy.{copied}
 use Rattle.custody_rewrites.proofs.OneRewrite.{rewrite-done, left-refused, left-done}
 use borrow.Author.Needs.{needs}
 use Rattle.custody_rewrites.proofs.rewrites.rewrite.Statement.{statement}
 use Rattle.custody_rewrites.proofs.rewrites.rewrite.Tie as tie
+
+-- after an accepted rewrite the card is as long as the output
+long : (c : tie.After-copy-arg2) → let w = c .before .before .before .before .before .before in length (now (w .before .before .before .before .before .args .card)) ≡ length (w .rewrite .last .1 .1 .0)
+long c =
+    let w = c .before .before .before .before .before .before in
+    let s = w .before .before .before .before .before in
+    let a = s .args in
+    omega (arith, w .rewrite .kept .1 .1 .0, rewrite-done (now (a .card)) (a .edition) _ (sym (w .rewrite .ensures .0) ∙ c .before .before .enum-told .given .1), s .pre)
 
 rewrite-requires : tie.Need-rewrite-requires
 rewrite-requires c κs = search needs
@@ -16,12 +26,8 @@ enum-known-answer c = search needs
 enum-told : tie.Need-enum-told
 enum-told c = search needs
 
-store-requires : tie.Need-store-requires
-store-requires c κs =
-    let w = c .before .before .before .before .before .before in
-    let s = w .before .before .before .before .before in
-    let a = s .args in
-    omega (arith, w .rewrite .kept .1 .1 .0, rewrite-done (now (a .card)) (a .edition) _ (sym (w .rewrite .ensures .0) ∙ c .before .before .enum-told .given .1), s .pre)
+copy-requires : tie.Need-copy-requires
+copy-requires c κs = omega (arith, long c)
 
 same-length : tie.Need-same-length
 same-length c = search needs
@@ -45,7 +51,7 @@ returns-2 : tie.Need-returns-2
 returns-2 c =
     let w = c .before .before .before .before .before .before .before .before .before in
     let a = w .before .before .before .before .before .args in
-    left-done (now (a .card)) (a .edition) (now (a .out)) _ _ (sym (w .rewrite .ensures .0) ∙ c .before .before .before .before .before .enum-told .given .1) (w .rewrite .ensures .1) (c .before .before .store .ensures)
+    left-done (now (a .card)) (a .edition) (now (a .out)) _ _ (sym (w .rewrite .ensures .0) ∙ c .before .before .before .before .before .enum-told .given .1) (w .rewrite .ensures .1) (c .before .before .copy .ensures .1 ∙ copied _ _ (long (c .before .before .before)))
 
 pub rewrite-spec : {M : Type 1} → statement M
 rewrite-spec =
@@ -54,7 +60,7 @@ rewrite-spec =
     rewrite-requires
     enum-known-answer
     enum-told
-    store-requires
+    copy-requires
     same-length
     same-length-2
     returns

@@ -1,8 +1,8 @@
--- `card_writer::lacks` meets its contract: its tests are the definition's. Assumes nothing.
+-- `card_writer::unwritable` meets its contract: its tests are the definition's. Assumes nothing.
 use Rattle.card_writer.specs.Writing.{unwritable}
 use borrow.Author.Needs.{needs}
-use Rattle.card_writer.proofs.lacks.Statement.{statement}
-use Rattle.card_writer.proofs.lacks.Tie as tie
+use Rattle.card_writer.proofs.unwritable.Statement.{statement}
+use Rattle.card_writer.proofs.unwritable.Tie as tie
 
 least-requires : tie.Need-least-requires
 least-requires c κs = search needs
@@ -14,5 +14,5 @@ returns : tie.Need-returns
 unfolding unwritable
 returns c = rw (c .has-access .ensures, c .before .least .ensures)
 
-pub lacks-spec : {M : Type 1} → statement M
-lacks-spec = tie.close (tie.spec least-requires has-access-requires returns)
+pub unwritable-spec : {M : Type 1} → statement M
+unwritable-spec = tie.close (tie.spec least-requires has-access-requires returns)
