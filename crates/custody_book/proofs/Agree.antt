@@ -8,11 +8,12 @@ use borrow.Author.Tests.{le-leb, eq-eqb, ne-eqb}
 use lib.Dec.{eqb, leb, ltb}
 use lib.Ieee.{Float}
 use lib.ListN.{length}
+use Rattle.lists.specs.Lists.{newOrKept}
 use Rattle.lists.proofs.Tests.{and3, pass, stop}
 use Rattle.layout.specs.Layout.{validLayout}
 use Rattle.line.specs.declared.LineAnswer.{LineAnswer}
 use Rattle.line.specs.declared.LineAnswer.the-variants.{Points, Refused as LineRefused}
-use Rattle.line.specs.Answer.{unpackAnswer, kept as line-kept}
+use Rattle.line.specs.Answer.{unpackAnswer, accepted}
 use Rattle.decoding.specs.Decode.{valuesOf}
 use Rattle.card_table.specs.declared.facts.Facts.{Facts}
 use Rattle.card_table.specs.Edition.{editionKnown, hasAccess, leastEdition}
@@ -52,7 +53,7 @@ unfolding factsValid
 layout-valid f v =
     first (validLayout (f .layout)) (sideKnown (f .width)) (sideKnown (f .height)) (leb 1 (f .item)) (ltb (f .item) (2 ^ 64)) (accessKnown (f .access)) v
 
-kept-cond : (t : Bool) (n k : ℕ) (before after : List Float) → line-kept (cond t (LineRefused k) (Points n)) before after ≡ cond t before after
+kept-cond : (t : Bool) (n k : ℕ) (before after : List Float) → newOrKept (accepted (cond t (LineRefused k) (Points n))) after before ≡ cond t before after
 kept-cond true n k before after = refl
 kept-cond false n k before after = refl
 
@@ -62,7 +63,7 @@ module _ (g : Facts) (v : factsValid g ≡ true) (packed : List ℕ) (values : L
   decoding-is = pass _ (ap not (layout-valid g v)) refl
 
   values-is : thenValues (Shown g) packed values ≡ bookValues (Shown g) packed values
-  values-is = ap (λ (answer : LineAnswer). line-kept answer values (valuesOf (g .layout) packed)) decoding-is ∙ kept-cond (not (decodable (g .layout) packed values)) (pointsIn (g .layout) packed) 13 values (valuesOf (g .layout) packed)
+  values-is = ap (λ (answer : LineAnswer). newOrKept (accepted answer) (valuesOf (g .layout) packed) values) decoding-is ∙ kept-cond (not (decodable (g .layout) packed values)) (pointsIn (g .layout) packed) 13 values (valuesOf (g .layout) packed)
 
 -- ---- one rewrite
 
