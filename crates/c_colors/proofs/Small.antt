@@ -3,12 +3,10 @@ use mathlib.Core.Path.{_≡_, refl}
 use mathlib.Core.Bool.{true}
 use mathlib.Core.List.{List}
 use Prim.Native.Nat.{ℕ, _/_}
-use lib.Dec.{leb}
 use lib.ListN.{length}
-use Rattle.lists.specs.Lists.{every}
-use Rattle.layout.specs.Layout.{topOf}
 use Rattle.refusal.specs.Refusal.{codeTooHigh}
 use Rattle.line.specs.declared.LineAnswer.the-variants.{Points}
+use Rattle.line.specs.Line.{codesWithin}
 use Rattle.line.specs.Answer.{fitting}
 use Rattle.color_model.specs.Line.{convertible, conversionAnswer}
 use Rattle.c_types.proofs.Lines.{smallLine, three, count}
@@ -16,4 +14,4 @@ use Rattle.c_types.proofs.Lines.{smallLine, three, count}
 pub conversion-small : (p d f t : ℕ) (cs : List ℕ) (output : ℕ) → smallLine (conversionAnswer p d f t cs output) ≡ true
 unfolding conversionAnswer
 conversion-small p d f t cs output =
-    three (convertible p d f t) (fitting (length cs) 3 output 3) (every (λ c. leb c (topOf d)) cs) codeTooHigh (Points (length cs / 3)) refl (λ e. count (length cs) 3 output 3)
+    three (convertible p d f t) (fitting (length cs) 3 output 3) (codesWithin d cs) codeTooHigh (Points (length cs / 3)) refl (λ e. count (length cs) 3 output 3)

@@ -6,8 +6,9 @@ use Prim.Native.Nat.{ℕ}
 use lib.Ieee.{Float}
 use lib.ListN.{length}
 use Rattle.layout.specs.declared.Layout.{Layout}
-use Rattle.layout.specs.Layout.{validLayout, codesWithin}
+use Rattle.layout.specs.Layout.{validLayout}
 use Rattle.refusal.specs.Refusal.{notANumber, codeTooHigh}
+use Rattle.line.specs.Line.{codesWithin}
 use Rattle.line.specs.Answer.{fitting, points, unpackAnswer, packAnswer}
 use Rattle.line.proofs.Answers.{packed-points}
 use Rattle.packing.specs.Encode.{allNumbers, encodeAnswer}
@@ -23,7 +24,7 @@ unpack-small l bytes codes = two (validLayout l) (fitting bytes (l .bytes) codes
 
 pub pack-small : (l : Layout) (cs : List ℕ) (bytes : ℕ) → smallLine (packAnswer l cs bytes) ≡ true
 unfolding packAnswer
-pack-small l cs bytes = three (validLayout l) (fitting (length cs) 3 bytes (l .bytes)) (codesWithin l cs) codeTooHigh (points l bytes) refl (packed-count l (length cs) bytes)
+pack-small l cs bytes = three (validLayout l) (fitting (length cs) 3 bytes (l .bytes)) (codesWithin (l .depth) cs) codeTooHigh (points l bytes) refl (packed-count l (length cs) bytes)
 
 pub encode-small : (l : Layout) (vs : List Float) (bytes : ℕ) → smallLine (encodeAnswer l vs bytes) ≡ true
 unfolding encodeAnswer

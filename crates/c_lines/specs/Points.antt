@@ -3,7 +3,7 @@ use mathlib.Core.List.{List}
 use lib.IntN.{ℤ, pos, negℤ}
 use lib.Ieee.{Float}
 use Rattle.line.specs.declared.Point.{Point}
-use Rattle.packing.specs.Encode.{pointValues}
+use Rattle.line.specs.Line.{pointValues}
 use Rattle.decoding.specs.declared.DecodedPoint.{DecodedPoint}
 use Rattle.decoding.specs.declared.DecodedPoint.the-variants.{Decoded, Refused as NoPoint}
 

@@ -1,8 +1,9 @@
 // The C interface of lines and points: include/imurraqi.h declares the same functions.
 ghost use mathlib.Core.Path.{_≡_};
 ghost use lib.ListN.{length};
+ghost use Rattle.line.specs.Line.{pointValues};
 ghost use Rattle.line.specs.Answer.{unpackAnswer, unpackOutput, packAnswer, packOutput};
-ghost use Rattle.packing.specs.Encode.{encodeAnswer, encodeOutput, pointValues};
+ghost use Rattle.packing.specs.Encode.{encodeAnswer, encodeOutput};
 ghost use Rattle.decoding.specs.Decode.{decodeAnswer, decodeOutput, decodePoint};
 ghost use Rattle.c_types.specs.Layouts.{layoutOf};
 ghost use Rattle.c_types.specs.Numbers.{lineNumber};

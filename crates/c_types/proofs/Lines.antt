@@ -12,13 +12,13 @@ use Rattle.lists.proofs.Tests.{and3}
 use Rattle.refusal.specs.Refusal.{outside, wrongLineOrOutput}
 use Rattle.line.specs.declared.LineAnswer.{LineAnswer}
 use Rattle.line.specs.declared.LineAnswer.the-variants.{Points, Refused}
-use Rattle.line.specs.Answer.{fitting}
+use Rattle.line.specs.Answer.{mostPoints, fitting}
 use Rattle.c_types.specs.Numbers.{lineNumber, counted}
 use Rattle.c_types.proofs.Numbers.{passed, passed-count}
 
--- a count of at most 4,096, or a refusal's number of at most 15
+-- a count that a line can have, or a refusal's number of at most 15
 abbrev pub smallLine : LineAnswer → Bool
-smallLine (Points n) = leb n 4096
+smallLine (Points n) = leb n mostPoints
 smallLine (Refused k) = leb k 15
 
 -- the rows of a line's refusal, of two tests and of three
@@ -34,19 +34,19 @@ three true true false k r g h = g
 three true true true k r g h = h refl refl
 
 -- a line that fits has few points
-pub count : (n per output each : ℕ) → fitting n per output each ≡ true → leb (n / per) 4096 ≡ true
-count n per output each e = and3 (eqb (n % per) 0) (leb (n / per) 4096) (eqb output (each * (n / per))) e .1
+pub count : (n per output each : ℕ) → fitting n per output each ≡ true → leb (n / per) mostPoints ≡ true
+count n per output each e = and3 (eqb (n % per) 0) (leb (n / per) mostPoints) (eqb output (each * (n / per))) e .1
 
 -- the number of a count that a line can have, and of one that none has
-pub of-points : {a : LineAnswer} (n : ℕ) (z : ℤ) → a ≡ Points n → n ≤ 4096 → z ≡ pos n → z ≡ cond (counted a) (lineNumber a) (pos 0)
-of-points n z e h f = rw (e, le-leb n 4096 h) f
+pub of-points : {a : LineAnswer} (n : ℕ) (z : ℤ) → a ≡ Points n → n ≤ mostPoints → z ≡ pos n → z ≡ cond (counted a) (lineNumber a) (pos 0)
+of-points n z e h f = rw (e, le-leb n mostPoints h) f
 
-pub of-too-many : {a : LineAnswer} (n : ℕ) → a ≡ Points n → 4096 < n → pos 0 ≡ cond (counted a) (lineNumber a) (pos 0)
-of-too-many n e h = rw (e, lt-leb n 4096 h) refl
+pub of-too-many : {a : LineAnswer} (n : ℕ) → a ≡ Points n → mostPoints < n → pos 0 ≡ cond (counted a) (lineNumber a) (pos 0)
+of-too-many n e h = rw (e, lt-leb n mostPoints h) refl
 
 -- a line's number handed on by a call
 passed-line : (a : LineAnswer) → smallLine a ≡ true → (z : ℤ) → z ≡ cond (counted a) (lineNumber a) (pos 0) → toZ w64 (ofZ w64 z) ≡ lineNumber a
-passed-line (Points n) h z e = passed-count n (omega (arith, leb-true n 4096 h)) z (e ∙ ap (λ (b : Bool). cond b (pos n) (pos 0)) h)
+passed-line (Points n) h z e = passed-count n (omega (arith, leb-true n mostPoints h)) z (e ∙ ap (λ (b : Bool). cond b (pos n) (pos 0)) h)
 passed-line (Refused k) h z e = passed k (omega (arith, leb-true k 15 h)) z e
 
 -- and that of the answer which the library gave

@@ -4,6 +4,7 @@ use lib.Dec.{leb}
 use lib.IntN.{ℤ, pos, negℤ}
 use Rattle.line.specs.declared.LineAnswer.{LineAnswer}
 use Rattle.line.specs.declared.LineAnswer.the-variants.{Points, Refused}
+use Rattle.line.specs.Answer.{mostPoints}
 
 -- the count of points
 abbrev pub lineNumber : LineAnswer → ℤ
@@ -12,5 +13,5 @@ lineNumber (Refused k) = negℤ (pos k)
 
 -- no more points than a line can have
 abbrev pub counted : LineAnswer → Bool
-counted (Points n) = leb n 4096
+counted (Points n) = leb n mostPoints
 counted (Refused k) = true

@@ -8,9 +8,7 @@ ghost use Rattle.c_types.specs.Numbers.{lineNumber, counted};
 use card_table::Facts;
 use layout::Layout;
 use line::LineAnswer;
-
-// No line has more points.
-const MOST_POINTS: usize = 4096;
+use line::MOST_POINTS;
 
 // A refusal: minus its number.
 pub fn refused(number: u8) -> i64

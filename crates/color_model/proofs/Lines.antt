@@ -25,7 +25,7 @@ module _ (f : ℕ → ℕ → ℕ → ℕ → ℕ) (cs : List ℕ) where
   -- one turn of a loop
   pub converted-more : (out xs ys : List ℕ) (i : ℕ) → 3 * i + 3 ≤ length out → Filled out (convertedAt f cs) (3 * i) xs → ys ≡ written xs (3 * i) (pointAt f cs i) 3
       → Filled out (convertedAt f cs) (3 * (i + 1)) ys
-  converted-more out xs ys i room h e = filled-more (pointAt f cs i) 3 (omega arith) (omega arith) (converted-at i) h e
+  converted-more out xs ys i fits h e = filled-more (pointAt f cs i) 3 (omega arith) (omega arith) (converted-at i) h e
 
   -- all turns
   pub converted-all : (out xs : List ℕ) (i n : ℕ) → length cs ≡ 3 * n → length out ≡ 3 * n → n ≤ i → i ≤ n → Filled out (convertedAt f cs) (3 * i) xs → xs ≡ convertedOf f cs

@@ -2,4 +2,4 @@ pub mod Weights
 pub mod Equations
 pub mod Conversion
 pub mod Line
-pub mod Whole
+pub mod inner

@@ -6,7 +6,7 @@ ghost use lib.Dec.{leb};
 ghost use lib.ListN.{length};
 ghost use Rattle.lists.specs.Lists.{every, written};
 ghost use Rattle.color_model.specs.Line.{convertedOf};
-ghost use Rattle.color_model.specs.Whole.{rowsAt, ReadyRows};
+ghost use Rattle.color_model.specs.inner.Whole.{rowsAt, ReadyRows};
 use crate::linear::Rows;
 use crate::linear::whole;
 

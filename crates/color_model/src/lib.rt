@@ -39,7 +39,7 @@ fn answer(
         return LineAnswer::Refused(refusal::OUTSIDE);
     }
     let n = codes.len() / 3;
-    if !((codes.len() % 3 == 0) & (n <= 4096) & (output == 3 * n)) {
+    if !((codes.len() % 3 == 0) & (n <= line::MOST_POINTS) & (output == 3 * n)) {
         return LineAnswer::Refused(refusal::WRONG_LINE_OR_OUTPUT);
     }
     if !line::all_within(codes, Depth::of(depth).top()) {

@@ -9,6 +9,7 @@ use borrow.Author.Tests.{eq-eqb, le-leb, eqb-true}
 use lib.Dec.{eqb, lit<}
 use lib.Ieee.{Float, nan}
 use lib.ListN.{length, getD}
+use Rattle.lists.specs.Lists.{newOrKept}
 use Rattle.lists.proofs.Lists.{getD-tabulate}
 use Rattle.lists.proofs.Tests.{pass, stop}
 use Rattle.layout.specs.declared.Layout.{Layout}
@@ -17,7 +18,7 @@ use Rattle.layout.proofs.Facts.{valid-says}
 use Rattle.line.specs.declared.LineAnswer.{LineAnswer}
 use Rattle.line.specs.declared.LineAnswer.the-variants.{Points, Refused as NoLine}
 use Rattle.line.specs.declared.Point.{Point}
-use Rattle.line.specs.Answer.{fitting, kept}
+use Rattle.line.specs.Answer.{mostPoints, fitting, accepted}
 use Rattle.line.proofs.Answers.{fits, unpack-outside, unpack-unfit, unpack-points}
 use Rattle.decoding.specs.declared.DecodedPoint.{DecodedPoint}
 use Rattle.decoding.specs.declared.DecodedPoint.the-variants.{Decoded, Refused}
@@ -43,7 +44,7 @@ one-fits n b pos = go (eqb n b) (fitting n b 3 3) refl refl
         let e : n ≡ 1 * b = omega (arith, eqb-true n b p) in
         let d : n / b ≡ 1 = ap (λ (x : ℕ). x / b) e ∙ mul-div-cancel 1 pos in
         let r : n % b ≡ 0 = ap (λ (x : ℕ). x % b) e ∙ mul-mod-left 1 b in
-        let whole = ap₂ _&&_ (eq-eqb (n % b) 0 r) (le-leb (n / b) 4096 (omega arith)) in
+        let whole = ap₂ _&&_ (eq-eqb (n % b) 0 r) (le-leb (n / b) mostPoints (omega arith)) in
         sym q ∙ ap₂ _&&_ whole (eq-eqb 3 (3 * (n / b)) (omega arith))
     go false true p q =
         let h = fits n b 3 3 q in
@@ -76,9 +77,9 @@ module _ (l : Layout) (s : List ℕ) where
           ∙ sym (ap (λ a. shown a (valuesOf l s)) (unpack-points l (length s) 3 p f))
 
   -- what the line's decoding answers and leaves is what the point's answers
-  pub point-decoded : (before xs : List Float) (n : ℕ) → Points n ≡ decodeAnswer l (length s) 3 → xs ≡ kept (decodeAnswer l (length s) 3) before (valuesOf l s) → Decoded (firstOf xs) ≡ decodePoint l s
+  pub point-decoded : (before xs : List Float) (n : ℕ) → Points n ≡ decodeAnswer l (length s) 3 → xs ≡ newOrKept (accepted (decodeAnswer l (length s) 3)) (valuesOf l s) before → Decoded (firstOf xs) ≡ decodePoint l s
   point-decoded before xs n e f =
-      ap (λ vs. Decoded (firstOf vs)) (f ∙ ap (λ (a : LineAnswer). kept a before (valuesOf l s)) (sym e))
+      ap (λ vs. Decoded (firstOf vs)) (f ∙ ap (λ (a : LineAnswer). newOrKept (accepted a) (valuesOf l s) before) (sym e))
       ∙ ap (λ a. shown a (valuesOf l s)) e ∙ sym as-line
 
   pub point-refused : (k : ℕ) → NoLine k ≡ decodeAnswer l (length s) 3 → Refused k ≡ decodePoint l s

@@ -16,7 +16,7 @@ use Rattle.quantization.specs.Answer.{scaleAt}
 use Rattle.line.specs.Point.{bits, pointOf}
 use Rattle.line.proofs.Points.{code-at}
 use Rattle.decoding.specs.Decode.{valueAt, valuesOf}
-use Rattle.decoding.specs.Whole.{fieldValue}
+use Rattle.decoding.specs.inner.Field.{fieldValue}
 
 -- a value that was worked out on channel j's scale
 pub on-scale : (l : Layout) (v j : ℕ) {sc : Scale} {x : Float} → sc ≡ scaleAt l j → x ≡ valueOf sc (bits (l .depth) (offsetOf l j) v) → x ≡ fieldValue l v j
@@ -33,7 +33,7 @@ module _ (l : Layout) (s : List ℕ) where
   -- one turn of a loop: point i's number is v
   pub values-more : (out xs ys : List Float) (i v : ℕ) → 3 * i + 3 ≤ length out → v ≡ pointOf l s i → Filled out (valueAt l s) (3 * i) xs
       → ys ≡ written xs (3 * i) (fieldValue l v) 3 → Filled out (valueAt l s) (3 * (i + 1)) ys
-  values-more out xs ys i v room e f g =
+  values-more out xs ys i v fits e f g =
       filled-more (fieldValue l v) 3 (omega arith) (omega arith) (λ j h. ap (λ (p : ℕ). fieldValue l p j) e ∙ value-at i j h) f g
 
   -- all turns

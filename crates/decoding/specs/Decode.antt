@@ -5,7 +5,7 @@ use mathlib.Core.List.{List}
 use lib.Dec.{eqb}
 use lib.Ieee.{Float}
 use lib.ListN.{length}
-use Rattle.lists.specs.Lists.{tabulate}
+use Rattle.lists.specs.Lists.{tabulate, newOrKept}
 use Rattle.layout.specs.declared.Layout.{Layout}
 use Rattle.layout.specs.Layout.{validLayout}
 use Rattle.refusal.specs.Refusal.{outside, wrongLineOrOutput}
@@ -14,7 +14,7 @@ use Rattle.quantization.specs.Answer.{scaleAt}
 use Rattle.line.specs.declared.LineAnswer.{LineAnswer}
 use Rattle.line.specs.declared.Point.{Point}
 use Rattle.line.specs.Line.{codeAt}
-use Rattle.line.specs.Answer.{unpackAnswer, kept}
+use Rattle.line.specs.Answer.{unpackAnswer, accepted}
 use Rattle.decoding.specs.declared.DecodedPoint.{DecodedPoint}
 use Rattle.decoding.specs.declared.DecodedPoint.the-variants.{Decoded, Refused}
 
@@ -33,7 +33,7 @@ decodeAnswer l bytes floats = unpackAnswer l bytes floats
 
 -- the floats after decoding
 abbrev pub decodeOutput : Layout → List ℕ → List Float → List Float
-decodeOutput l s before = kept (decodeAnswer l (length s) (length before)) before (valuesOf l s)
+decodeOutput l s before = newOrKept (accepted (decodeAnswer l (length s) (length before))) (valuesOf l s) before
 
 -- the first point of a packed line: its values in channel order
 unfoldable pub firstPoint : Layout → List ℕ → Point

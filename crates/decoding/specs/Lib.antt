@@ -1,2 +1,2 @@
 pub mod Decode
-pub mod Whole
+pub mod inner

@@ -27,7 +27,7 @@ pub fn decode_line(layout: Layout, packed: &[u8], out: &mut [f32]) -> LineAnswer
     }
     let size = layout.bytes as usize;
     let n = packed.len() / size;
-    if !((packed.len() % size == 0) & (n <= 4096) & (out.len() == 3 * n)) {
+    if !((packed.len() % size == 0) & (n <= line::MOST_POINTS) & (out.len() == 3 * n)) {
         return LineAnswer::Refused(refusal::WRONG_LINE_OR_OUTPUT);
     }
     points::all(layout, Scales::of(layout), packed, out, n);

@@ -4,7 +4,7 @@ ghost use mathlib.Core.Bool.{true};
 ghost use Prim.Native.Nat.{_*_};
 ghost use lib.ListN.{length};
 ghost use Rattle.layout.specs.Layout.{validLayout};
-ghost use Rattle.quantization.specs.Scales.{Fitted};
+ghost use Rattle.quantization.specs.inner.Fitted.{Fitted};
 ghost use Rattle.decoding.specs.Decode.{valuesOf};
 use crate::field;
 use crate::load;

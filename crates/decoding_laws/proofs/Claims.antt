@@ -6,12 +6,13 @@ use native.Mathlib.Omega.{arith}
 use borrow.Author.Tests.{eq-eqb}
 use lib.Dec.{lit<}
 use lib.ListN.{length}
+use Rattle.lists.specs.Lists.{newOrKept}
 use Rattle.layout.specs.declared.Layout.{Layout}
 use Rattle.layout.specs.Layout.{validLayout}
 use Rattle.line.specs.declared.LineAnswer.{LineAnswer}
 use Rattle.line.specs.declared.LineAnswer.the-variants.{Points}
 use Rattle.line.specs.Line.{packedOf}
-use Rattle.line.specs.Answer.{fitting, kept}
+use Rattle.line.specs.Answer.{fitting, accepted}
 use Rattle.line.proofs.Answers.{fits, unpack-outside, unpack-unfit, unpack-points}
 use Rattle.packing.proofs.Answers.{encode-points}
 use Rattle.decoding.specs.Decode.{valuesOf, decodeAnswer}
@@ -25,7 +26,7 @@ pub decodes-lines : DecodesLines
 decodes-lines l n s p h = unpacking-accepted l n s (3 * n) p (omega arith) h
 
 pub leaves-values : LeavesValues
-leaves-values l n s p h before e = ap (λ (a : LineAnswer). kept a before (valuesOf l s)) (unpacking-accepted l n s (length before) p e h)
+leaves-values l n s p h before e = ap (λ (a : LineAnswer). newOrKept (accepted a) (valuesOf l s) before) (unpacking-accepted l n s (length before) p e h)
 
 pub refuses-other-outputs : RefusesOtherOutputs
 refuses-other-outputs l n s p floats e = unpack-unfit l (length s) floats (p .valid) (go (fitting (length s) (l .bytes) floats 3) refl)

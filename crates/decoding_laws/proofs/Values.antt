@@ -23,10 +23,9 @@ use Rattle.quantization.specs.Code.{codeOf, codeOr}
 use Rattle.quantization.specs.Answer.{channelKnownAt, named, scaleAt, dequantized}
 use Rattle.quantization_laws.proofs.Return.{code-returns}
 use Rattle.line.specs.Point.{pointOf}
-use Rattle.line.specs.Line.{codeAt, codesOf}
+use Rattle.line.specs.Line.{codeAt, codesOf, PackedLine}
 use Rattle.packing.specs.Encode.{valueCode, quantizedOf, allNumbers}
 use Rattle.decoding.specs.Decode.{valueAt, valuesOf}
-use Rattle.scanline_laws.specs.Claims.{PackedLine}
 
 -- what has a code is a number
 has-code : (sc : Scale) (v : Float) (c : ℕ) → codeOf sc v ≡ Code c → not (isNan v) ≡ true

@@ -12,20 +12,20 @@ use Rattle.refusal.specs.Refusal.{wrongLineOrOutput}
 use Rattle.quantization.specs.Answer.{named, dequantized}
 use Rattle.line.specs.declared.LineAnswer.the-variants.{Points, Refused as LineRefused}
 use Rattle.line.specs.declared.Point.{Point}
-use Rattle.line.specs.Line.{codeAt, codesOf, packedOf}
-use Rattle.packing.specs.Encode.{quantizedOf, encodeAnswer, pointValues}
+use Rattle.line.specs.Line.{codeAt, codesOf, packedOf, pointValues, PackedLine}
+use Rattle.line.specs.Answer.{mostPoints}
+use Rattle.packing.specs.Encode.{quantizedOf, encodeAnswer}
 use Rattle.decoding.specs.declared.DecodedPoint.the-variants.{Decoded, Refused}
 use Rattle.decoding.specs.Decode.{valuesOf, decodeAnswer, decodeOutput, decodePoint}
 use Rattle.scanline_laws.specs.Cleared.{cleared}
-use Rattle.scanline_laws.specs.Claims.{PackedLine}
 
 -- any captured line, of up to 4,096 points, is decoded into three floats a point
 abbrev pub DecodesLines : Type 0
-DecodesLines = (l : Layout) (n : ℕ) (s : List ℕ) → PackedLine l n s → n ≤ 4096 → decodeAnswer l (length s) (3 * n) ≡ Points n
+DecodesLines = (l : Layout) (n : ℕ) (s : List ℕ) → PackedLine l n s → n ≤ mostPoints → decodeAnswer l (length s) (3 * n) ≡ Points n
 
 -- which then hold its values
 abbrev pub LeavesValues : Type 0
-LeavesValues = (l : Layout) (n : ℕ) (s : List ℕ) → PackedLine l n s → n ≤ 4096 → (before : List Float) → length before ≡ 3 * n → decodeOutput l s before ≡ valuesOf l s
+LeavesValues = (l : Layout) (n : ℕ) (s : List ℕ) → PackedLine l n s → n ≤ mostPoints → (before : List Float) → length before ≡ 3 * n → decodeOutput l s before ≡ valuesOf l s
 
 -- and into any other number of floats it is refused by 13
 abbrev pub RefusesOtherOutputs : Type 0
@@ -48,7 +48,7 @@ EncodesWhatWasDecoded = (l : Layout) (n : ℕ) (s : List ℕ) → PackedLine l n
 
 -- and it is accepted, of up to 4,096 points, into as many bytes: any captured line returns
 abbrev pub AcceptsWhatWasDecoded : Type 0
-AcceptsWhatWasDecoded = (l : Layout) (n : ℕ) (s : List ℕ) → PackedLine l n s → n ≤ 4096 → encodeAnswer l (valuesOf l s) (length s) ≡ Points n
+AcceptsWhatWasDecoded = (l : Layout) (n : ℕ) (s : List ℕ) → PackedLine l n s → n ≤ mostPoints → encodeAnswer l (valuesOf l s) (length s) ≡ Points n
 
 -- decoding one point is decoding a line into three floats: where the line is accepted, it is of one point, and the point's values are the line's
 abbrev pub DecodesPointAsLine : Type 0

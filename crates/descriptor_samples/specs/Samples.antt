@@ -4,7 +4,7 @@ use mathlib.Core.Bool.{Bool, not, cond, _&&_}
 use lib.Dec.{eqb, leb}
 use Rattle.layout.specs.declared.range.Range.{Range}
 use Rattle.layout.specs.declared.range.Range.the-variants.{Narrow, Full}
-use Rattle.layout.specs.Layout.{depthKnown, channelKnown, kindOf}
+use Rattle.layout.specs.Layout.{rangeNumber, depthKnown, channelKnown, kindOf}
 use Rattle.descriptor_samples.specs.declared.sample.Sample.{Sample}
 use Rattle.descriptor_samples.specs.declared.samples.Samples.{Samples}
 use Rattle.descriptor_samples.specs.Limits.{lowerOf, upperOf}
@@ -45,4 +45,4 @@ allState model range n s = states model range n (s .first) && states model range
 
 -- the number of the range that all three state, and 0 if they state no one range
 unfoldable pub rangeIn : ℕ → ℕ → Samples → ℕ
-rangeIn model n s = cond (allState model Narrow n s) 1 (cond (allState model Full n s) 2 0)
+rangeIn model n s = cond (allState model Narrow n s) (rangeNumber Narrow) (cond (allState model Full n s) (rangeNumber Full) 0)

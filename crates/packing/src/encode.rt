@@ -7,7 +7,7 @@ ghost use lib.ListN.{length};
 ghost use lib.Ieee.{isNan};
 ghost use Rattle.layout.specs.Layout.{validLayout};
 ghost use Rattle.quantization.specs.Code.{codeOf, codeOr};
-ghost use Rattle.quantization.specs.Scales.{Fitted};
+ghost use Rattle.quantization.specs.inner.Fitted.{Fitted};
 ghost use Rattle.line.specs.Line.{joined as joinedOf, packedOf};
 ghost use Rattle.packing.specs.Encode.{quantizedOf, allNumbers};
 use crate::join::join;

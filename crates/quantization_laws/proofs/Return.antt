@@ -20,7 +20,7 @@ use Rattle.quantization.specs.declared.code.Coded.the-variants.{Code}
 use Rattle.quantization.specs.Scale.{scaleOf}
 use Rattle.quantization.specs.Value.{valueOf}
 use Rattle.quantization.specs.Code.{codeOf}
-use Rattle.quantization.specs.inner.Whole.{moved, wholeCode}
+use Rattle.quantization.specs.inner.Whole.{signedSum, wholeCode}
 use Rattle.quantization.proofs.Codes.{Small, code-of-value, quotient-is}
 use Rattle.quantization.proofs.Scales.{scaleBy, by-step}
 use Rattle.quantization.proofs.Fields.{U}
@@ -32,7 +32,7 @@ lands : (sc : Scale) (c g u b : ℕ) → b < u → Near (sc .span * g) (gap c (s
 unfolding Near
 lands sc c g u b B n = ap (bounded (sc .low) (sc .high)) (go (ltb c (sc .base)) (ltb→lt c (sc .base)) (nltb→le c (sc .base)))
   where
-    go : (t : Bool) → (T t → c < sc .base) → (T (not t) → sc .base ≤ c) → moved t (2 * (sc .base * u) + u) (2 * (sc .span * g)) / (2 * u) ≡ c
+    go : (t : Bool) → (T t → c < sc .base) → (T (not t) → sc .base ≤ c) → signedSum t (2 * (sc .base * u) + u) (2 * (sc .span * g)) / (2 * u) ≡ c
     go true l r =
         let l' : c < sc .base = l tt in
         let e : sc .base ≡ c + gap c (sc .base) = omega arith in

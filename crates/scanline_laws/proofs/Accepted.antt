@@ -1,4 +1,4 @@
--- A line of a valid layout, of at most 4,096 points, is accepted into an output of its own length. Assumes nothing.
+-- A line of a valid layout, of no more points than a line may have, is accepted into an output of its own length. Assumes nothing.
 use mathlib.Core.Path.{_≡_, ap, ap₂, _∙_}
 use mathlib.Core.Bool.{true, _&&_}
 use mathlib.Core.List.{List}
@@ -11,25 +11,25 @@ use lib.ListN.{length}
 use Rattle.layout.specs.declared.Layout.{Layout}
 use Rattle.layout.proofs.Facts.{valid-says}
 use Rattle.line.specs.declared.LineAnswer.the-variants.{Points}
-use Rattle.line.specs.Answer.{fitting, unpackAnswer, packAnswer}
+use Rattle.line.specs.Line.{PackedLine, CodeLine}
+use Rattle.line.specs.Answer.{mostPoints, fitting, unpackAnswer, packAnswer}
 use Rattle.line.proofs.Answers.{unpack-points, pack-points}
-use Rattle.scanline_laws.specs.Claims.{PackedLine, CodeLine}
 
 -- per * n elements into each * n
-pub fit : (size per output each n : ℕ) → 0 < per → size ≡ per * n → output ≡ each * n → n ≤ 4096 → (fitting size per output each ≡ true) × (size / per ≡ n)
+pub fit : (size per output each n : ℕ) → 0 < per → size ≡ per * n → output ≡ each * n → n ≤ mostPoints → (fitting size per output each ≡ true) × (size / per ≡ n)
 fit size per output each n pos s o h =
     let e : size ≡ n * per = s ∙ mul-comm per n in
     let q : size / per ≡ n = ap (λ (x : ℕ). x / per) e ∙ mul-div-cancel n pos in
     let r : size % per ≡ 0 = ap (λ (x : ℕ). x % per) e ∙ mul-mod-left n per in
-    let whole = ap₂ _&&_ (eq-eqb (size % per) 0 r) (le-leb (size / per) 4096 (omega arith)) in
+    let whole = ap₂ _&&_ (eq-eqb (size % per) 0 r) (le-leb (size / per) mostPoints (omega arith)) in
     (ap₂ _&&_ whole (eq-eqb output (each * (size / per)) (o ∙ ap (λ (x : ℕ). each * x) (omega arith))), q)
 
-pub packing-accepted : (l : Layout) (n : ℕ) (cs : List ℕ) (bytes : ℕ) → CodeLine l n cs → bytes ≡ l .bytes * n → n ≤ 4096 → packAnswer l cs bytes ≡ Points n
+pub packing-accepted : (l : Layout) (n : ℕ) (cs : List ℕ) (bytes : ℕ) → CodeLine l n cs → bytes ≡ l .bytes * n → n ≤ mostPoints → packAnswer l cs bytes ≡ Points n
 packing-accepted l n cs bytes p e h =
     let f = fit (length cs) 3 bytes (l .bytes) n (lit< tt) (p .points) e h in
     pack-points l cs bytes (p .valid) (f .0) (p .codes) ∙ ap Points (f .1)
 
-pub unpacking-accepted : (l : Layout) (n : ℕ) (s : List ℕ) (codes : ℕ) → PackedLine l n s → codes ≡ 3 * n → n ≤ 4096 → unpackAnswer l (length s) codes ≡ Points n
+pub unpacking-accepted : (l : Layout) (n : ℕ) (s : List ℕ) (codes : ℕ) → PackedLine l n s → codes ≡ 3 * n → n ≤ mostPoints → unpackAnswer l (length s) codes ≡ Points n
 unpacking-accepted l n s codes p e h =
     let b : 3 ≤ l .bytes = valid-says l (p .valid) .bytes-least in
     let f = fit (length s) (l .bytes) codes 3 n (omega arith) (p .points) e h in

@@ -20,10 +20,9 @@ use Rattle.layout.specs.declared.Layout.{Layout}
 use Rattle.layout.specs.Layout.{validLayout, offsetOf}
 use Rattle.layout.proofs.Facts.{Valid, valid-says}
 use Rattle.line.specs.Point.{bits, pointOf, inPlace}
-use Rattle.line.specs.Line.{joined, codeAt, codesOf, byteAt, packedOf}
+use Rattle.line.specs.Line.{joined, codeAt, codesOf, byteAt, packedOf, CodeLine}
 use Rattle.line.proofs.Joins.{or-sum}
 use Rattle.line.proofs.Points.{code-lt, byte-at, point-inside}
-use Rattle.scanline_laws.specs.Claims.{CodeLine}
 use Rattle.scanline_laws.proofs.Bits.{pow-256, own, other, turned, bits-or3}
 use Rattle.scanline_laws.proofs.Cleared.{part-length}
 

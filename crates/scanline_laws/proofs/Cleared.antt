@@ -17,14 +17,13 @@ use Rattle.lists.proofs.Bytes.{bytesOf-little, getD-bytesOf}
 use Rattle.lists.proofs.Every.{every-at, every-of}
 use Rattle.lists.proofs.Lists.{length-tabulate, getD-tabulate, tabulate-same}
 use Rattle.layout.specs.declared.Layout.{Layout}
-use Rattle.layout.specs.Layout.{topOf, offsetOf, codesWithin}
+use Rattle.layout.specs.Layout.{topOf, offsetOf}
 use Rattle.layout.proofs.Facts.{Valid, valid-says}
 use Rattle.line.specs.Point.{bits, pointOf, inPlace}
-use Rattle.line.specs.Line.{joined, codeAt, codesOf, byteAt, packedOf}
+use Rattle.line.specs.Line.{joined, codeAt, codesOf, byteAt, packedOf, codesWithin, PackedLine}
 use Rattle.line.proofs.Joins.{and-or, or-sum}
 use Rattle.line.proofs.Points.{code-at, point-inside}
 use Rattle.scanline_laws.specs.Cleared.{usedBits, cleared}
-use Rattle.scanline_laws.specs.Claims.{PackedLine}
 use Rattle.scanline_laws.proofs.Bits.{byte-and, field-ones}
 
 -- k elements from index o on
@@ -101,7 +100,7 @@ module _ (l : Layout) (n : ℕ) (s : List ℕ) (p : PackedLine l n s) where
       ap (λ (m : ℕ). tabulate m (byteAt l (codesOf l s))) (ap (λ (m : ℕ). b * m) e ∙ sym (p .points))
       ∙ tabulate-same 0 (length s) (byteAt l (codesOf l s)) (λ k. bitAnd (getD s k 0) (byteOf (usedBits l) (k % b))) byte-is
 
-  pub codes-small : codesWithin l (codesOf l s) ≡ true
+  pub codes-small : codesWithin (l .depth) (codesOf l s) ≡ true
   codes-small = every-of (λ c. leb c (topOf (l .depth))) 0 (codesOf l s) (λ k h.
       let i = k / 3 in
       let j = k % 3 in

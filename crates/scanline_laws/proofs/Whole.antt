@@ -19,8 +19,8 @@ use Rattle.lists.proofs.Tests.{or-cases}
 use Rattle.layout.specs.declared.Layout.{Layout}
 use Rattle.layout.specs.Layout.{validLayout, apart}
 use Rattle.layout.proofs.Facts.{Valid, valid-says}
+use Rattle.line.specs.Line.{PackedLine}
 use Rattle.scanline_laws.specs.Cleared.{usedBits, cleared}
-use Rattle.scanline_laws.specs.Claims.{PackedLine}
 use Rattle.scanline_laws.proofs.Bits.{pow-256}
 use Rattle.scanline_laws.proofs.Cleared.{bytes-pos}
 

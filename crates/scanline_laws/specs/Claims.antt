@@ -5,26 +5,13 @@ use mathlib.Core.Path.{_≡_}
 use mathlib.Core.List.{List}
 use lib.Ieee.{Float}
 use lib.ListN.{length}
-use Rattle.lists.specs.Bytes.{areBytes}
 use Rattle.layout.specs.declared.Layout.{Layout}
-use Rattle.layout.specs.Layout.{validLayout, codesWithin}
+use Rattle.layout.specs.Layout.{validLayout}
 use Rattle.line.specs.declared.LineAnswer.the-variants.{Points}
-use Rattle.line.specs.Line.{codesOf, packedOf}
-use Rattle.line.specs.Answer.{unpackAnswer, packAnswer}
+use Rattle.line.specs.Line.{codesOf, packedOf, PackedLine, CodeLine}
+use Rattle.line.specs.Answer.{mostPoints, unpackAnswer, packAnswer}
 use Rattle.packing.specs.Encode.{quantizedOf}
 use Rattle.scanline_laws.specs.Cleared.{cleared}
-
--- a packed line of n points of a valid layout
-pub record PackedLine (l : Layout) (n : ℕ) (s : List ℕ) : Type 0 where
-  pub valid : validLayout l ≡ true
-  pub bytes : areBytes s ≡ true
-  pub points : length s ≡ l .bytes * n
-
--- a line of n points of a valid layout as codes, each within the depth
-pub record CodeLine (l : Layout) (n : ℕ) (cs : List ℕ) : Type 0 where
-  pub valid : validLayout l ≡ true
-  pub codes : codesWithin l cs ≡ true
-  pub points : length cs ≡ 3 * n
 
 -- packing what was unpacked clears the unused bits and changes nothing else
 abbrev pub PacksWhatWasUnpacked : Type 0
@@ -47,10 +34,10 @@ PacksToBytes = (l : Layout) (n : ℕ) (cs : List ℕ) → CodeLine l n cs → Pa
 
 -- and so it is accepted, of up to 4,096 points, into an output as long as the line that it came from
 abbrev pub AcceptsWhatWasUnpacked : Type 0
-AcceptsWhatWasUnpacked = (l : Layout) (n : ℕ) (s : List ℕ) → PackedLine l n s → n ≤ 4096 → packAnswer l (codesOf l s) (length s) ≡ Points n
+AcceptsWhatWasUnpacked = (l : Layout) (n : ℕ) (s : List ℕ) → PackedLine l n s → n ≤ mostPoints → packAnswer l (codesOf l s) (length s) ≡ Points n
 
 abbrev pub AcceptsWhatWasPacked : Type 0
-AcceptsWhatWasPacked = (l : Layout) (n : ℕ) (cs : List ℕ) → CodeLine l n cs → n ≤ 4096 → unpackAnswer l (length (packedOf l cs)) (length cs) ≡ Points n
+AcceptsWhatWasPacked = (l : Layout) (n : ℕ) (cs : List ℕ) → CodeLine l n cs → n ≤ mostPoints → unpackAnswer l (length (packedOf l cs)) (length cs) ≡ Points n
 
 -- the codes of values are codes of the depth, so that all this holds of an encoded line too
 abbrev pub EncodesToCodes : Type 0

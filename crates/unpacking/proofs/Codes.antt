@@ -17,7 +17,7 @@ module _ (l : Layout) (s : List ℕ) where
   -- one turn of a loop: point i's number is v
   pub codes-more : (out xs ys : List ℕ) (i v : ℕ) → 3 * i + 3 ≤ length out → v ≡ pointOf l s i → Filled out (codeAt l s) (3 * i) xs
       → ys ≡ written xs (3 * i) (λ j. bits (l .depth) (offsetOf l j) v) 3 → Filled out (codeAt l s) (3 * (i + 1)) ys
-  codes-more out xs ys i v room e f g =
+  codes-more out xs ys i v fits e f g =
       filled-more (λ j. bits (l .depth) (offsetOf l j) v) 3 (omega arith) (omega arith) (λ j h. ap (bits (l .depth) (offsetOf l j)) e ∙ code-at l s i j h) f g
 
   -- all turns

@@ -19,7 +19,7 @@ pub fn unpack_line(layout: Layout, packed: &[u8], codes: &mut [u16]) -> LineAnsw
     }
     let size = layout.bytes as usize;
     let n = packed.len() / size;
-    if !((packed.len() % size == 0) & (n <= 4096) & (codes.len() == 3 * n)) {
+    if !((packed.len() % size == 0) & (n <= line::MOST_POINTS) & (codes.len() == 3 * n)) {
         return LineAnswer::Refused(refusal::WRONG_LINE_OR_OUTPUT);
     }
     points::all(layout, packed, codes, n);

@@ -9,7 +9,7 @@ use borrow.Author.Tests.{not-true, not-false}
 use lib.ListN.{length}
 use Rattle.layout.specs.Layout.{validLayout}
 use Rattle.layout.proofs.Facts.{Valid, valid-says}
-use Rattle.quantization.specs.Scales.{Fitted}
+use Rattle.quantization.specs.inner.Fitted.{Fitted}
 use Rattle.quantization.proofs.Scales.{scales-fit}
 use Rattle.line.proofs.Answers.{refuses, counts, fits, triple-le, unpack-outside, unpack-unfit, unpack-points}
 use Rattle.decoding.proofs.decode_line.Statement.{statement}

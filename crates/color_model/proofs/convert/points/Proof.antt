@@ -7,7 +7,7 @@ use lib.ListN.{length, getD}
 use Rattle.lists.proofs.Every.{every-at}
 use Rattle.lists.proofs.Filled.{Filled, filled-none, filled-length}
 use Rattle.color_model.specs.Line.{convertedAt}
-use Rattle.color_model.specs.Whole.{rowsAt}
+use Rattle.color_model.specs.inner.Whole.{rowsAt}
 use Rattle.color_model.proofs.Lines.{converted-more, converted-all}
 use Rattle.color_model.proofs.convert.points.Statement.{statement}
 use Rattle.color_model.proofs.convert.points.Tie as tie

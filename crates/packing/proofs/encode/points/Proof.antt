@@ -9,7 +9,7 @@ use Rattle.layout.proofs.Facts.{Valid, valid-says}
 use Rattle.line.specs.Line.{joined, byteAt, packedOf}
 use Rattle.packing.specs.Encode.{quantizedOf}
 use Rattle.packing.proofs.Encodes.{length-quantized}
-use Rattle.packing.proofs.Packs.{room, room8, bytes-none, bytes-as, bytes-more, bytes-all}
+use Rattle.packing.proofs.Packs.{point-fits, eight-fit, bytes-none, bytes-as, bytes-more, bytes-all}
 use Rattle.packing.proofs.encode.points.Statement.{statement}
 use Rattle.packing.proofs.encode.points.Tie as tie
 
@@ -52,13 +52,13 @@ add-if1 c = omega arith
 mul-store8 : tie.Need-mul-store8 Inv-loop μ-loop
 mul-store8 c =
     let s = c .before .before .before .before .before .before .before .before in
-    omega (arith, s .pre .1 .1, room (s .args .layout .bytes) (c .before .before .before .before .loop .i) (s .args .n) (omega arith))
+    omega (arith, s .pre .1 .1, point-fits (s .args .layout .bytes) (c .before .before .before .before .loop .i) (s .args .n) (omega arith))
 
 store8-requires : tie.Need-store8-requires Inv-loop μ-loop
 store8-requires c κs =
     let s = c .before .before .before .before .before .before .before .before in
     let l = c .before .before .before .before .loop in
-    omega (arith, l .inv .1 .long, s .pre .1 .1, room8 (s .args .layout .bytes) (l .i) (s .args .n) (facts s .bytes-least) (omega arith))
+    omega (arith, l .inv .1 .long, s .pre .1 .1, eight-fit (s .args .layout .bytes) (l .i) (s .args .n) (facts s .bytes-least) (omega arith))
 
 add-i : tie.Need-add-i Inv-loop μ-loop
 add-i c = omega arith
@@ -76,7 +76,7 @@ turned c =
     elim (c .if1 .came) [
       | inl t ↦ let h : l .i + 2 < s .args .n = t .0 .taken in
           bytes-more (s .args .layout) (codes s) (s .args .out .now) _ _ (l .i) (v .result) 8 (omega arith) (v .ensures) (facts s .bytes-most)
-          (omega (arith, s .pre .1 .1, room8 b (l .i) (s .args .n) (facts s .bytes-least) h)) (bytes-as _ _ (omega arith) refl (l .inv .1)) (t .5 ∙ t .2 .ensures)
+          (omega (arith, s .pre .1 .1, eight-fit b (l .i) (s .args .n) (facts s .bytes-least) h)) (bytes-as _ _ (omega arith) refl (l .inv .1)) (t .5 ∙ t .2 .ensures)
       | inr t ↦ let h : s .args .n ≤ l .i + 2 = t .0 .left in bytes-as _ _ (omega arith) (t .1) (l .inv .1)
     ]
 
@@ -91,12 +91,12 @@ loop-again c =
 mul-store-low : tie.Need-mul-store-low Inv-loop μ-loop
 mul-store-low c =
     let s = c .before .before .before .before .before .before .before in
-    omega (arith, s .pre .1 .1, room (s .args .layout .bytes) (s .args .n - 2) (s .args .n) (omega arith))
+    omega (arith, s .pre .1 .1, point-fits (s .args .layout .bytes) (s .args .n - 2) (s .args .n) (omega arith))
 
 store-low-requires : tie.Need-store-low-requires Inv-loop μ-loop
 store-low-requires c κs =
     let s = c .before .before .before .before .before .before .before in
-    omega (arith, c .before .before .before .loop .inv .1 .long, s .pre .1 .1, room (s .args .layout .bytes) (s .args .n - 2) (s .args .n) (omega arith))
+    omega (arith, c .before .before .before .loop .inv .1 .long, s .pre .1 .1, point-fits (s .args .layout .bytes) (s .args .n - 2) (s .args .n) (omega arith))
 
 -- all points but the last
 last-left : (c : tie.Joined2 Inv-loop μ-loop) → Filled (c .before .before .before .before .before .before .args .out .now) (bytes (c .before .before .before .before .before .before)) (c .before .before .before .before .before .before .args .layout .bytes * (c .before .before .before .before .before .before .args .n - 1)) (c .if2 .out)
@@ -109,19 +109,19 @@ last-left c =
       | inl t ↦ let h : 2 ≤ n = t .0 .taken in
           let i : l .i ≡ n = omega arith in
           bytes-more (s .args .layout) (codes s) (s .args .out .now) _ _ (n - 2) (l .before) b (omega arith) (l .inv .3 (omega arith) ∙ ap (λ (k : ℕ). joined (s .args .layout) (codes s) (k - 2)) i) (omega arith)
-          (omega (arith, s .pre .1 .1, room b (n - 2) n (omega arith))) (bytes-as _ _ (omega arith) refl (l .inv .1)) (t .5 ∙ t .2 .ensures)
+          (omega (arith, s .pre .1 .1, point-fits b (n - 2) n (omega arith))) (bytes-as _ _ (omega arith) refl (l .inv .1)) (t .5 ∙ t .2 .ensures)
       | inr t ↦ let h : n < 2 = t .0 .left in bytes-as _ _ (omega arith) (t .1) (l .inv .1)
     ]
 
 mul-store-low-2 : tie.Need-mul-store-low-2 Inv-loop μ-loop
 mul-store-low-2 c =
     let s = c .before .before .before .before .before .before .before .before in
-    omega (arith, s .pre .1 .1, room (s .args .layout .bytes) (s .args .n - 1) (s .args .n) (omega arith))
+    omega (arith, s .pre .1 .1, point-fits (s .args .layout .bytes) (s .args .n - 1) (s .args .n) (omega arith))
 
 store-low-requires-2 : tie.Need-store-low-requires-2 Inv-loop μ-loop
 store-low-requires-2 c κs =
     let s = c .before .before .before .before .before .before .before .before in
-    omega (arith, last-left (c .before .before) .long, s .pre .1 .1, room (s .args .layout .bytes) (s .args .n - 1) (s .args .n) (omega arith))
+    omega (arith, last-left (c .before .before) .long, s .pre .1 .1, point-fits (s .args .layout .bytes) (s .args .n - 1) (s .args .n) (omega arith))
 
 -- and the last
 all-stored : (c : tie.After-store-low2 Inv-loop μ-loop) → Filled (c .before .before .before .before .before .before .before .before .before .args .out .now) (bytes (c .before .before .before .before .before .before .before .before .before)) (c .before .before .before .before .before .before .before .before .before .args .layout .bytes * c .before .before .before .before .before .before .before .before .before .args .n) (c .store-low2 .last .0)
@@ -132,7 +132,7 @@ all-stored c =
     let n = s .args .n in
     let i : l .i ≡ n = omega arith in
     bytes-more (s .args .layout) (codes s) (s .args .out .now) _ _ (n - 1) (l .last) b (omega arith) (l .inv .2 (omega arith) ∙ ap (λ (k : ℕ). joined (s .args .layout) (codes s) (k - 1)) i) (omega arith)
-    (omega (arith, s .pre .1 .1, room b (n - 1) n (omega arith))) (last-left (c .before .before .before)) (c .store-low2 .ensures)
+    (omega (arith, s .pre .1 .1, point-fits b (n - 1) n (omega arith))) (last-left (c .before .before .before)) (c .store-low2 .ensures)
 
 whole : (s : Start) (i : ℕ) {xs : List ℕ} → i ≡ s .args .n → Filled (s .args .out .now) (bytes s) (s .args .layout .bytes * i) xs → xs ≡ packedOf (s .args .layout) (codes s)
 whole s i e f = bytes-all (s .args .layout) (codes s) (s .args .out .now) _ i (s .args .n) e (length-quantized (s .args .layout) (s .args .values .now) ∙ s .pre .1 .0) (s .pre .1 .1) f

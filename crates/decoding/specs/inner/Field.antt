@@ -1,4 +1,4 @@
--- What only private functions cite. Assumes nothing.
+-- The value of a field. Only private functions cite it, and a reader need not believe it: proofs/Values.antt shows that it is `valueAt`. Assumes nothing.
 use Prim.Native.Nat.{ℕ}
 use lib.Ieee.{Float}
 use Rattle.layout.specs.declared.Layout.{Layout}
