@@ -2,18 +2,12 @@
 use mathlib.Core.Path.{_≡_, refl, sym, ap, ap₂, _∙_, subst}
 use mathlib.Core.List.{List, [], _∷_, _++_}
 use Prim.Native.Nat.{ℕ, _+_, _-_, _≤_, _<_, suc, min}
-use native.Mathlib.Nat.{add-zero, add-suc, suc-add}
 use native.Mathlib.Omega.{arith, min-cases}
-use lib.ListN.{length, getD, take, drop, set, length-append, take-append-drop}
-use lib.Seq.{sets, sets-eq, set-out, length-sets, take-suc, take-all, length-take-le}
+use borrow.Rule.Slice.PartMut.{midOf, putMid}
+use lib.ListN.{length, take, drop, length-append, take-append-drop, drop-of-length-le}
+use lib.Seq.{sets, sets-eq, set-out, length-sets, length-take-le}
+use Rattle.lists.proofs.Copies.{sets-join, copied}
 use Rattle.text_writer.specs.Put.{Put}
-
--- two runs of stores, the second right after the first
-sets-join : (xs : List ℕ) (at : ℕ) (p q : List ℕ) → sets (sets xs at p) (at + length p) q ≡ sets xs at (p ++ q)
-sets-join xs at [] q = ap (λ (m : ℕ). sets xs m q) (add-zero at)
-sets-join xs at (a ∷ p) q =
-    ap (λ (m : ℕ). sets (sets (set xs at a) (suc at) p) m q) (add-suc at (length p) ∙ sym (suc-add at (length p)))
-    ∙ sets-join (set xs at a) (suc at) p q
 
 -- stores behind the end change nothing
 sets-past : (xs : List ℕ) (at : ℕ) (p : List ℕ) → length xs ≤ at → sets xs at p ≡ xs
@@ -41,36 +35,49 @@ module _ {p q xs ys zs : List ℕ} {at m next : ℕ} where
 pub put-as : {p q xs ys : List ℕ} {at next : ℕ} → p ≡ q → Put p at xs ys next → Put q at xs ys next
 put-as {p} {q} {xs} {ys} {at} {next} e a = subst (λ (t : List ℕ). Put t at xs ys next) e a
 
--- ---- a piece, byte by byte: what is stored before index next
+-- ---- a piece, as far as the output goes
 
 module _ (p xs : List ℕ) (at : ℕ) where
-  abbrev pub stored : ℕ → List ℕ
-  stored next = sets xs at (take (next - at) p)
+  -- nothing of it fits, or there is nothing of it
+  pub put-none : (end : ℕ) → end ≡ min (at + length p) (length xs) → end ≤ at → Put p at xs xs end
+  put-none end e h =
+      record {
+        holds =
+            min-cases (at + length p) (length xs) (xs ≡ sets xs at p)
+            (λ l m. sym (sets-nothing p (omega (arith, e, h, m))))
+            (λ l m. sym (sets-past xs at p (omega (arith, e, h, m))));
+        ends = e;
+      }
+    where
+      sets-nothing : (q : List ℕ) → length q ≡ 0 → sets xs at q ≡ xs
+      sets-nothing [] k = refl
+      sets-nothing (a ∷ q) k = absurd (omega (arith, k))
 
-  pub stored-none : xs ≡ stored at
-  stored-none = let e : at - at ≡ 0 = omega arith in sym (ap (λ (k : ℕ). sets xs at (take k p)) e)
+  -- its front is copied, and no more of it fits
+  module _ (end : ℕ) (e : end ≡ min (at + length p) (length xs)) (h : at < end) where
+    abbrev n : ℕ
+    n = end - at
 
-  module _ (next : ℕ) {ys : List ℕ} (from : at ≤ next) (s : ys ≡ stored next) where
-    at-next : next ≤ at + length p → at + length (take (next - at) p) ≡ next
-    at-next h = omega (arith, length-take-le (next - at) p (omega arith))
+    pub front-length : length (take n p) ≡ n
+    front-length = length-take-le n p (min-cases (at + length p) (length xs) (n ≤ length p) (λ k m. omega (arith, e, m)) (λ k m. omega (arith, e, m)))
 
-    pub stored-next : next < at + length p → set ys next (getD p (next - at) 0) ≡ stored (next + 1)
-    stored-next h =
-        let k : next + 1 - at ≡ suc (next - at) = omega arith in
-        let t : take (next + 1 - at) p ≡ take (next - at) p ++ (getD p (next - at) 0 ∷ []) = ap (λ (n : ℕ). take n p) k ∙ take-suc p (next - at) 0 (omega arith) in
-        ap₂ (λ (ws : List ℕ) (n : ℕ). set ws n (getD p (next - at) 0)) s (sym (at-next (omega arith)))
-        ∙ sets-join xs at (take (next - at) p) (getD p (next - at) 0 ∷ [])
-        ∙ ap (sets xs at) (sym t)
+    pub front-fits : end ≤ length xs
+    front-fits = min-cases (at + length p) (length xs) (end ≤ length xs) (λ k m. omega (arith, e, m)) (λ k m. omega (arith, e, m))
 
-    pub stored-all : next ≤ at + length p → min (at + length p) (length xs) ≤ next → ys ≡ sets xs at p
-    stored-all h g =
-        min-cases (at + length p) (length xs) (ys ≡ sets xs at p)
-        (λ l e. s ∙ ap (sets xs at) (take-all (next - at) p (omega arith)))
-        (λ l e.
-        let front = take (next - at) p in
-        s ∙ sym (sets-past (stored next) (at + length front) (drop (next - at) p) (omega (arith, length-sets xs at front, at-next h)))
-        ∙ sets-join xs at front (drop (next - at) p)
-        ∙ ap (sets xs at) (take-append-drop (next - at) p))
+    rest : sets (sets xs at (take n p)) (at + length (take n p)) (drop n p) ≡ sets xs at (take n p)
+    rest =
+        min-cases (at + length p) (length xs) (sets (sets xs at (take n p)) (at + length (take n p)) (drop n p) ≡ sets xs at (take n p))
+        (λ k m. ap (sets (sets xs at (take n p)) (at + length (take n p))) (let g : length p ≤ n = omega (arith, e, m) in drop-of-length-le p g))
+        (λ k m. sets-past (sets xs at (take n p)) (at + length (take n p)) (drop n p) (omega (arith, e, m, front-length, length-sets xs at (take n p))))
+
+    pub put-front : (ys : List ℕ) → ys ≡ take (length (take n p)) (take n p) ++ drop (length (take n p)) (midOf at n xs) → Put p at xs (putMid at n xs ys) end
+    put-front ys c =
+        let q = take n p in
+        let m : n ≡ at + length q - at = omega (arith, front-length) in
+        let s : putMid at n xs ys ≡ sets xs at q
+        = ap (λ (k : ℕ). putMid at k xs ys) m
+        ∙ copied xs q ys at (omega (arith, front-length, front-fits)) (c ∙ ap (λ (k : ℕ). take (length q) q ++ drop (length q) (midOf at k xs)) m) in
+        record { holds = s ∙ sym rest ∙ sets-join xs at q (drop n p) ∙ ap (sets xs at) (take-append-drop n p); ends = e }
 
 -- a text at the front of an output that can hold it, and behind it what was there before
 pub front : {p xs ys : List ℕ} {next : ℕ} → length p ≤ length xs → Put p 0 xs ys next → (next ≡ length p) × (ys ≡ p ++ drop next xs)
