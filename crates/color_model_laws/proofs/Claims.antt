@@ -1,18 +1,19 @@
 -- The claims of specs/Claims.antt. Assumes nothing.
-use mathlib.Core.Path.{_≡_, refl}
-use mathlib.Core.Bool.{Bool, true, _&&_}
+use mathlib.Core.Path.{_≡_, refl, ap}
+use mathlib.Core.Bool.{Bool, true, not, _&&_}
 use Prim.Native.Nat.{_+_}
+use native.Mathlib.Omega.{arith}
 use borrow.Author.Tests.{leb-true, eqb-true}
 use lib.Dec.{leb, eqb}
-use native.Mathlib.Omega.{arith}
-use Rattle.color_model.specs.declared.weights.Weights.{Weights}
 use Rattle.lists.specs.Lists.{every}
-use Rattle.lists.proofs.Tests.{and-left, and-right, and3}
+use Rattle.lists.proofs.Tests.{and-left, and-right, and3, pass}
+use Rattle.color_model.specs.declared.weights.Weights.{Weights}
 use Rattle.color_model.specs.Weights.{weightRows, weightsOf, greenOf}
 use Rattle.color_model.specs.Equations.{lumaOf, chromaOf, primaryOf, greenFrom}
+use Rattle.color_model.specs.Line.{conversionAnswer}
 use Rattle.color_model.proofs.Table.{each-row}
 use Rattle.color_model.proofs.Whole.{luma-den, chroma-den, primary-den, green-den}
-use Rattle.color_model_laws.specs.Claims.{RowsRight, Inverts, InvertsBack, MarkedRight}
+use Rattle.color_model_laws.specs.Claims.{RowsRight, Inverts, InvertsBack, CountsEmptyLines, MarkedRight}
 use Rattle.color_model_laws.specs.Marked.{marked, given, stated}
 use Rattle.color_model_laws.proofs.Inverse.{rgb-back, ycbcr-back}
 
@@ -59,6 +60,10 @@ inverts-back w y cb cr K Y B R =
     let L = luma-den w r g b P (green-den w y r b K Y P Q) Q in
     let e = ycbcr-back w K y cb cr Y B R in
     ((L, e .0), (chroma-den (w .blue) b luma (omega arith) Q L, e .1), (chroma-den (w .red) r luma (omega arith) P L, e .2))
+
+pub counts-empty-lines : CountsEmptyLines
+unfolding every conversionAnswer
+counts-empty-lines primaries n from to e = pass _ (ap not e) refl
 
 pub marked-right : MarkedRight
 unfolding given stated marked

@@ -1,13 +1,15 @@
--- Claims about the equations of document 01, "Between R'G'B' and Y'CbCr", as the entries' contracts cite them, and about the marked examples. proofs/Claims.antt proves each. Assumes nothing.
+-- Claims about the equations of document 01, "Between R'G'B' and Y'CbCr", as the entries' contracts cite them, about an empty line, and about the marked examples. proofs/Claims.antt proves each. Assumes nothing.
 use Prim.Native.Nat.{ℕ, _+_, _<_}
 use mathlib.Core.Bool.{true}
 use mathlib.Core.Path.{_≡_}
-use mathlib.Core.List.{map}
+use mathlib.Core.List.{[], map}
 use Rattle.fractions.specs.Fraction.{Fraction, Same}
 use Rattle.layout.specs.Layout.{primariesKnown}
+use Rattle.line.specs.declared.LineAnswer.the-variants.{Points}
 use Rattle.color_model.specs.declared.weights.Weights.{Weights}
 use Rattle.color_model.specs.Weights.{weightsOf, greenOf}
 use Rattle.color_model.specs.Equations.{lumaOf, chromaOf, primaryOf, greenFrom}
+use Rattle.color_model.specs.Line.{convertible, conversionAnswer}
 use Rattle.color_model_laws.specs.Marked.{marked, given, stated}
 
 -- three weights above 0, and together they are 1
@@ -42,6 +44,10 @@ InvertsBack =
     let g = greenFrom w y r b in
     let luma = lumaOf w r g b in
     Equals luma y × Equals (chromaOf (w .blue) b luma) cb × Equals (chromaOf (w .red) r luma) cr
+
+-- an empty line counts 0
+abbrev pub CountsEmptyLines : Type 0
+CountsEmptyLines = (primaries n from to : ℕ) → convertible primaries n from to ≡ true → conversionAnswer primaries n from to [] 0 ≡ Points 0
 
 -- the marked examples M1 to M12
 abbrev pub MarkedRight : Type 0

@@ -1,26 +1,36 @@
 -- The claims of specs/Claims.antt. Assumes nothing.
-use mathlib.Core.Path.{_≡_, refl, sym, ap, _∙_}
-use mathlib.Core.Bool.{Bool, true, false}
-use Prim.Native.Nat.{ℕ, _*_, _/_}
+use mathlib.Core.Path.{_≡_, refl, sym, ap, _∙_, subst}
+use mathlib.Core.Bool.{Bool, true, false, not}
+use mathlib.Core.List.{List, [], map}
+use Prim.Native.Nat.{ℕ, _*_, _/_, _%_}
+use native.Mathlib.Nat.{mul-zero}
 use native.Mathlib.Omega.{arith}
 use borrow.Author.Tests.{eq-eqb}
 use lib.Dec.{lit<}
-use lib.ListN.{length}
-use Rattle.lists.specs.Lists.{newOrKept}
+use lib.Ieee.{Float, nan, isNan}
+use lib.ListN.{length, getD}
+use Rattle.lists.specs.Lists.{every, newOrKept}
+use Rattle.lists.proofs.Every.{every-at}
+use Rattle.lists.proofs.Lists.{length-tabulate, getD-tabulate}
+use Rattle.lists.proofs.Tests.{pass}
 use Rattle.layout.specs.declared.Layout.{Layout}
 use Rattle.layout.specs.Layout.{validLayout}
+use Rattle.quantization.specs.declared.Quantized.the-variants.{Code}
+use Rattle.quantization.specs.Code.{codeOf, codeOr}
+use Rattle.quantization.specs.Answer.{scaleAt, quantized}
 use Rattle.line.specs.declared.LineAnswer.{LineAnswer}
 use Rattle.line.specs.declared.LineAnswer.the-variants.{Points}
-use Rattle.line.specs.Line.{packedOf}
+use Rattle.line.specs.Line.{codeAt, codesOf, packedOf, CodeLine}
 use Rattle.line.specs.Answer.{fitting, accepted}
 use Rattle.line.proofs.Answers.{fits, unpack-outside, unpack-unfit, unpack-points}
+use Rattle.packing.specs.Encode.{valueCode, quantizedOf, encodeAnswer, encodeOutput}
 use Rattle.packing.proofs.Answers.{encode-points}
-use Rattle.decoding.specs.Decode.{valuesOf, decodeAnswer}
+use Rattle.decoding.specs.Decode.{valuesOf, decodeAnswer, decodeOutput}
 use Rattle.decoding.proofs.One.{firstOf, shown, as-line}
 use Rattle.scanline_laws.proofs.Accepted.{fit, unpacking-accepted}
-use Rattle.scanline_laws.proofs.Claims.{packs-what-was-unpacked}
-use Rattle.decoding_laws.specs.Claims.{DecodesLines, LeavesValues, RefusesOtherOutputs, DecodesEachCode, QuantizesWhatWasDecoded, EncodesWhatWasDecoded, AcceptsWhatWasDecoded, DecodesPointAsLine, RefusesPointAsLine}
-use Rattle.decoding_laws.proofs.Values.{length-values, codes-back, all-numbers, as-dequantized, values-of, three}
+use Rattle.scanline_laws.proofs.Claims.{packs-what-was-unpacked, unpacks-what-was-packed, unpacks-to-codes, packs-to-bytes, packs-unused-bits-as-zero, encodes-to-codes, counts-empty-lines as empty-lines}
+use Rattle.decoding_laws.specs.Claims.{clampedTo, DecodesLines, LeavesValues, RefusesOtherOutputs, DecodesEachCode, QuantizesWhatWasDecoded, EncodesEachValue, EncodesWhatWasDecoded, ReturnsWithinEnds, EveryCodeWithinEnds, AnyLineReturns, CountsEmptyLines, DecodesPointAsLine, RefusesPointAsLine}
+use Rattle.decoding_laws.proofs.Values.{clamped-same, number-coded, channel-known, length-values, codes-back, all-numbers, all-within, as-dequantized, values-of, three}
 
 pub decodes-lines : DecodesLines
 decodes-lines l n s p h = unpacking-accepted l n s (3 * n) p (omega arith) h
@@ -40,16 +50,57 @@ refuses-other-outputs l n s p floats e = unpack-unfit l (length s) floats (p .va
 pub decodes-each-code : DecodesEachCode
 decodes-each-code l n s p = let e = values-of l n s p in (e, λ k h. as-dequantized l s (p .valid) k (omega arith))
 
+pub encodes-each-value : EncodesEachValue
+unfolding quantized quantizedOf valueCode codesOf
+encodes-each-value l n vs ok numbers e =
+    let cs = quantizedOf l vs in
+    let s = packedOf l cs in
+    let line = encodes-to-codes l n vs ok e in
+    let bytes = packs-to-bytes l n cs line in (
+      bytes,
+      λ k h.
+          let v = getD vs k nan in
+          let at : getD (codesOf l s) k 0 ≡ codeAt l s k = getD-tabulate (3 * (length s / l .bytes)) (codeAt l s) k 0 (omega (arith, length-tabulate (3 * (length s / l .bytes)) (codeAt l s), unpacks-to-codes l n s bytes .points)) in
+          let own : getD cs k 0 ≡ codeOr 0 (codeOf (scaleAt l (k % 3)) v) = getD-tabulate (length vs) (valueCode l vs) k 0 (omega arith) in
+          let back = ap (λ (xs : List ℕ). getD xs k 0) (unpacks-what-was-packed l n cs line) in
+          pass _ (ap not (channel-known l k ok))
+          (number-coded (scaleAt l (k % 3)) v (every-at (λ x. not (isNan x)) nan vs k numbers (omega arith))
+          ∙ ap Code (sym own ∙ sym back ∙ at)),
+    )
+
 pub quantizes-what-was-decoded : QuantizesWhatWasDecoded
 quantizes-what-was-decoded l n s p = codes-back l s (p .valid)
 
 pub encodes-what-was-decoded : EncodesWhatWasDecoded
-encodes-what-was-decoded l n s p = ap (packedOf l) (codes-back l s (p .valid)) ∙ packs-what-was-unpacked l n s p
+encodes-what-was-decoded l n s p =
+    let e = codes-back l s (p .valid) in
+    let line = encodes-to-codes l n (valuesOf l s) (p .valid) (values-of l n s p) in
+    (ap (packedOf l) e, packs-unused-bits-as-zero l n (map (clampedTo l) (codesOf l s)) (subst (CodeLine l n) e line))
 
-pub accepts-what-was-decoded : AcceptsWhatWasDecoded
-accepts-what-was-decoded l n s p h =
-    let f = fit (length (valuesOf l s)) 3 (length s) (l .bytes) n (lit< tt) (values-of l n s p) (p .points) h in
-    encode-points l (valuesOf l s) (length s) (p .valid) (f .0) (all-numbers l s (p .valid)) ∙ ap Points (f .1)
+pub returns-within-ends : ReturnsWithinEnds
+returns-within-ends l n s p w = ap (packedOf l) (codes-back l s (p .valid) ∙ clamped-same l (codesOf l s) w) ∙ packs-what-was-unpacked l n s p
+
+pub every-code-within-ends : EveryCodeWithinEnds
+every-code-within-ends l n s p = all-within l s (p .valid)
+
+pub any-line-returns : AnyLineReturns
+any-line-returns l n s p h floats bytes ef eb =
+    let vs = valuesOf l s in
+    let left : decodeOutput l s floats ≡ vs = leaves-values l n s p h floats ef in
+    let f = fit (length vs) 3 (length bytes) (l .bytes) n (lit< tt) (values-of l n s p) (eb ∙ p .points) h in
+    let taken : encodeAnswer l vs (length bytes) ≡ Points n = encode-points l vs (length bytes) (p .valid) (f .0) (all-numbers l s (p .valid)) ∙ ap Points (f .1) in (
+      unpacking-accepted l n s (length floats) p ef h,
+      ap (λ (xs : List Float). encodeAnswer l xs (length bytes)) left ∙ taken,
+      ap (λ (xs : List Float). encodeOutput l xs bytes) left
+          ∙ ap (λ (a : LineAnswer). newOrKept (accepted a) (packedOf l (quantizedOf l vs)) bytes) taken
+          ∙ returns-within-ends l n s p (all-within l s (p .valid)),
+    )
+
+pub counts-empty-lines : CountsEmptyLines
+unfolding every
+counts-empty-lines l ok =
+    let f = fit 0 3 0 (l .bytes) 0 (lit< tt) refl (sym (mul-zero (l .bytes))) (omega arith) in
+    (empty-lines l ok .0, encode-points l [] 0 ok (f .0) refl ∙ ap Points (f .1))
 
 -- three floats are those of one point
 one-point : (l : Layout) (bytes n : ℕ) → decodeAnswer l bytes 3 ≡ Points n → (n ≡ 1) × (bytes / l .bytes ≡ 1)

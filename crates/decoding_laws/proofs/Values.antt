@@ -1,31 +1,38 @@
 -- The values of a packed line, one by one. Assumes nothing.
 use mathlib.Core.Path.{_≡_, refl, sym, ap, ap₂, _∙_}
-use mathlib.Core.Bool.{true, not, _&&_}
-use mathlib.Core.List.{List, [], _∷_}
-use Prim.Native.Nat.{ℕ, _*_, _/_, _%_, _^_, _≤_, _<_}
+use mathlib.Core.Bool.{true, false, not, _&&_}
+use mathlib.Core.List.{List, [], _∷_, map}
+use Prim.Native.Nat.{ℕ, zero, suc, _*_, _/_, _%_, _^_, _≤_, _<_}
 use native.Mathlib.Nat.{mod-lt, mul-comm, mul-div-cancel}
 use native.Mathlib.Omega.{arith}
-use borrow.Author.Tests.{lt-ltb, le-ltb}
+use borrow.Author.Tests.{lt-ltb, le-ltb, le-leb, leb-true}
+use lib.Dec.{leb}
 use lib.Ieee.{Float, nan, inf, fin, isNan}
 use lib.ListN.{length, getD}
 use lib.Pow.{pow-pos}
-use Rattle.lists.specs.Lists.{tabulate}
+use Rattle.lists.specs.Lists.{tabulate, every}
 use Rattle.lists.proofs.Every.{every-of}
 use Rattle.lists.proofs.Lists.{length-tabulate, getD-tabulate, tabulate-same}
-use Rattle.lists.proofs.Tests.{pass}
+use Rattle.lists.proofs.Tests.{and3, pass}
+use Rattle.fractions.specs.Fraction.{bounded}
 use Rattle.layout.specs.declared.Layout.{Layout}
 use Rattle.layout.specs.Layout.{topOf, rangeOf, kindOf, offsetOf, validLayout}
 use Rattle.layout.proofs.Facts.{valid-says}
 use Rattle.quantization.specs.declared.scale.Scale.{Scale}
 use Rattle.quantization.specs.declared.code.Coded.the-variants.{Code}
+use Rattle.quantization.specs.declared.Quantized.the-variants.{Code as Answered}
 use Rattle.quantization.specs.Value.{valueOf}
 use Rattle.quantization.specs.Code.{codeOf, codeOr}
-use Rattle.quantization.specs.Answer.{channelKnownAt, named, scaleAt, dequantized}
+use Rattle.quantization.specs.Answer.{channelKnownAt, named, scaleAt, dequantized, orRefused}
+use Rattle.quantization.proofs.Scales.{ends-whole}
+use Rattle.quantization_laws.specs.Printed.{printedLow, printedHigh}
+use Rattle.quantization_laws.proofs.Printed.{ends-printed}
 use Rattle.quantization_laws.proofs.Return.{code-returns}
 use Rattle.line.specs.Point.{pointOf}
 use Rattle.line.specs.Line.{codeAt, codesOf, PackedLine}
 use Rattle.packing.specs.Encode.{valueCode, quantizedOf, allNumbers}
 use Rattle.decoding.specs.Decode.{valueAt, valuesOf}
+use Rattle.decoding_laws.specs.Claims.{clampedTo, withinEnds}
 
 -- what has a code is a number
 has-code : (sc : Scale) (v : Float) (c : ℕ) → codeOf sc v ≡ Code c → not (isNan v) ≡ true
@@ -33,6 +40,42 @@ unfolding codeOf isNan
 has-code sc nan c e = let z : _≡_ {A = ℕ} 0 1 = cc in absurd (omega arith)
 has-code sc (inf s) c e = refl
 has-code sc (fin s m x) c e = refl
+
+-- f along a table
+map-tabulate : (f : ℕ → ℕ) (n : ℕ) (g : ℕ → ℕ) → map f (tabulate n g) ≡ tabulate n (λ k. f (g k))
+unfolding tabulate
+map-tabulate f zero g = refl
+map-tabulate f (suc n) g = ap (λ (xs : List ℕ). f (g 0) ∷ xs) (map-tabulate f n (λ k. g (suc k)))
+
+-- the ends of a layout's codes
+abbrev lowOf : Layout → ℕ
+lowOf l = printedLow (rangeOf (l .range)) (l .depth)
+
+abbrev highOf : Layout → ℕ
+highOf l = printedHigh (rangeOf (l .range)) (l .depth)
+
+-- codes within them are as they were
+pub clamped-same : (l : Layout) (cs : List ℕ) → withinEnds l cs ≡ true → map (clampedTo l) cs ≡ cs
+unfolding every
+clamped-same l [] e = refl
+clamped-same l (c ∷ cs) e =
+    let h = and3 (leb (lowOf l) c) (leb c (highOf l)) (every (λ c. leb (lowOf l) c && leb c (highOf l)) cs) e in
+    let d : clampedTo l c ≡ c = omega (arith, leb-true (lowOf l) c (h .0), leb-true c (highOf l) (h .1)) in
+    ap₂ _∷_ d (clamped-same l cs (h .2))
+
+-- a number has a code, which quantizing answers
+pub number-coded : (sc : Scale) (v : Float) → not (isNan v) ≡ true → orRefused (codeOf sc v) ≡ Answered (codeOr 0 (codeOf sc v))
+unfolding codeOf isNan
+number-coded sc nan e = let z : _≡_ {A = ℕ} 0 1 = cc in absurd (omega arith)
+number-coded sc (inf false) e = refl
+number-coded sc (inf true) e = refl
+number-coded sc (fin s m x) e = refl
+
+-- a valid layout has three channels
+pub channel-known : (l : Layout) (k : ℕ) → validLayout l ≡ true → channelKnownAt (l .model) (l .range) (l .depth) (k % 3) ≡ true
+channel-known l k ok =
+    let r = valid-says l ok in
+    ap₂ _&&_ (ap₂ _&&_ (ap₂ _&&_ (r .model) (r .range)) (r .depth)) (lt-ltb (k % 3) 3 (omega arith))
 
 module _ (l : Layout) (s : List ℕ) where
   -- a code of a packed line is one of the depth
@@ -49,29 +92,39 @@ module _ (l : Layout) (s : List ℕ) where
   value-at k h = getD-tabulate (3 * (length s / l .bytes)) (valueAt l s) k nan (omega (arith, length-values))
 
   module _ (ok : validLayout l ≡ true) where
-    -- the code of value k is code k
-    code-back : (k : ℕ) → k < length (valuesOf l s) → codeOf (scaleAt l (k % 3)) (getD (valuesOf l s) k nan) ≡ Code (codeAt l s k)
+    -- the code of value k is code k, clamped
+    code-back : (k : ℕ) → k < length (valuesOf l s) → codeOf (scaleAt l (k % 3)) (getD (valuesOf l s) k nan) ≡ Code (clampedTo l (codeAt l s k))
     code-back k h =
         let r = valid-says l ok in
+        let range = rangeOf (l .range) in
+        let f = ends-printed range (l .depth) in
         ap (codeOf (scaleAt l (k % 3))) (value-at k h)
-        ∙ code-returns (rangeOf (l .range)) (kindOf (l .model) (k % 3)) (l .depth) (codeAt l s k) (r .depth-least) (r .depth-most) (code-le k)
+        ∙ code-returns range (kindOf (l .model) (k % 3)) (l .depth) (codeAt l s k) (r .depth-least) (r .depth-most) (code-le k)
+        ∙ ap₂ (λ (low high : ℕ). Code (bounded low high (codeAt l s k))) (f .0) (f .1)
 
-    pub codes-back : quantizedOf l (valuesOf l s) ≡ codesOf l s
+    pub codes-back : quantizedOf l (valuesOf l s) ≡ map (clampedTo l) (codesOf l s)
     unfolding quantizedOf valueCode codesOf
     codes-back =
-        tabulate-same 0 (length (valuesOf l s)) (valueCode l (valuesOf l s)) (codeAt l s) (λ k h. ap (codeOr 0) (code-back k h))
-        ∙ ap (λ (m : ℕ). tabulate m (codeAt l s)) length-values
+        tabulate-same 0 (length (valuesOf l s)) (valueCode l (valuesOf l s)) (λ k. clampedTo l (codeAt l s k)) (λ k h. ap (codeOr 0) (code-back k h))
+        ∙ ap (λ (m : ℕ). tabulate m (λ k. clampedTo l (codeAt l s k))) length-values
+        ∙ sym (map-tabulate (clampedTo l) (3 * (length s / l .bytes)) (codeAt l s))
 
     pub all-numbers : allNumbers (valuesOf l s) ≡ true
-    all-numbers = every-of (λ v. not (isNan v)) nan (valuesOf l s) (λ k h. has-code (scaleAt l (k % 3)) (getD (valuesOf l s) k nan) (codeAt l s k) (code-back k h))
+    all-numbers = every-of (λ v. not (isNan v)) nan (valuesOf l s) (λ k h. has-code (scaleAt l (k % 3)) (getD (valuesOf l s) k nan) (clampedTo l (codeAt l s k)) (code-back k h))
+
+    -- every code lies within the ends
+    pub all-within : withinEnds l (codesOf l s) ≡ true
+    unfolding codesOf
+    all-within = every-of (λ c. leb (lowOf l) c && leb c (highOf l)) 0 (codesOf l s) (λ k h.
+        let e : getD (codesOf l s) k 0 ≡ codeAt l s k = getD-tabulate (3 * (length s / l .bytes)) (codeAt l s) k 0 (omega (arith, length-tabulate (3 * (length s / l .bytes)) (codeAt l s))) in
+        let f = ends-printed (rangeOf (l .range)) (l .depth) in
+        let w = ends-whole (rangeOf (l .range)) (l .depth) in
+        ap₂ _&&_ (le-leb (lowOf l) (getD (codesOf l s) k 0) (omega arith)) (le-leb (getD (codesOf l s) k 0) (highOf l) (omega (arith, code-le k))))
 
     pub as-dequantized : (k : ℕ) → k < length (valuesOf l s) → dequantized (l .model) (l .range) (l .depth) (k % 3) (codeAt l s k) ≡ named (kindOf (l .model) (k % 3)) (getD (valuesOf l s) k nan)
     unfolding dequantized
     as-dequantized k h =
-        let r = valid-says l ok in
-        let known : channelKnownAt (l .model) (l .range) (l .depth) (k % 3) ≡ true =
-        ap₂ _&&_ (ap₂ _&&_ (ap₂ _&&_ (r .model) (r .range)) (r .depth)) (lt-ltb (k % 3) 3 (omega arith)) in
-        pass _ (ap not known) (pass _ (le-ltb (topOf (l .depth)) (codeAt l s k) (code-le k)) (ap (named (kindOf (l .model) (k % 3))) (sym (value-at k h))))
+        pass _ (ap not (channel-known l k ok)) (pass _ (le-ltb (topOf (l .depth)) (codeAt l s k) (code-le k)) (ap (named (kindOf (l .model) (k % 3))) (sym (value-at k h))))
 
 -- of n points
 pub values-of : (l : Layout) (n : ℕ) (s : List ℕ) → PackedLine l n s → length (valuesOf l s) ≡ 3 * n

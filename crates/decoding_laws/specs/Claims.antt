@@ -1,23 +1,35 @@
--- What is claimed of decoding, of the definitions that the contracts of `decode_line` and `decode_point` cite. proofs/Claims.antt proves each. Assumes nothing.
+-- What is claimed of decoding and encoding, of the definitions that the contracts of `decode_line`, `encode_line` and `decode_point` cite. proofs/Claims.antt proves each. Assumes nothing.
 use Prim.Native.Nat.{ℕ, _*_, _%_, _≤_, _<_}
-use mathlib.Core.Bool.{false}
+use mathlib.Core.Bool.{Bool, true, false, _&&_}
 use mathlib.Core.Path.{_≡_}
-use mathlib.Core.List.{List}
-use lib.Dec.{eqb}
+use mathlib.Core.List.{List, [], map}
+use lib.Dec.{eqb, leb}
 use lib.Ieee.{Float, nan}
 use lib.ListN.{length, getD}
+use Rattle.lists.specs.Lists.{every}
+use Rattle.fractions.specs.Fraction.{bounded}
 use Rattle.layout.specs.declared.Layout.{Layout}
-use Rattle.layout.specs.Layout.{kindOf}
+use Rattle.layout.specs.Layout.{rangeOf, kindOf, validLayout}
 use Rattle.refusal.specs.Refusal.{wrongLineOrOutput}
-use Rattle.quantization.specs.Answer.{named, dequantized}
+use Rattle.quantization.specs.declared.Quantized.the-variants.{Code}
+use Rattle.quantization.specs.Answer.{named, dequantized, quantized}
+use Rattle.quantization_laws.specs.Printed.{printedLow, printedHigh}
 use Rattle.line.specs.declared.LineAnswer.the-variants.{Points, Refused as LineRefused}
 use Rattle.line.specs.declared.Point.{Point}
 use Rattle.line.specs.Line.{codeAt, codesOf, packedOf, pointValues, PackedLine}
 use Rattle.line.specs.Answer.{mostPoints}
-use Rattle.packing.specs.Encode.{quantizedOf, encodeAnswer}
+use Rattle.packing.specs.Encode.{quantizedOf, allNumbers, encodeAnswer, encodeOutput}
 use Rattle.decoding.specs.declared.DecodedPoint.the-variants.{Decoded, Refused}
 use Rattle.decoding.specs.Decode.{valuesOf, decodeAnswer, decodeOutput, decodePoint}
 use Rattle.scanline_laws.specs.Cleared.{cleared}
+
+-- a code clamped to the ends of its channel, which are those of the layout's range
+abbrev pub clampedTo : Layout → ℕ → ℕ
+clampedTo l c = bounded (printedLow (rangeOf (l .range)) (l .depth)) (printedHigh (rangeOf (l .range)) (l .depth)) c
+
+-- no code lies outside them
+abbrev pub withinEnds : Layout → List ℕ → Bool
+withinEnds l codes = every (λ c. leb (printedLow (rangeOf (l .range)) (l .depth)) c && leb c (printedHigh (rangeOf (l .range)) (l .depth))) codes
 
 -- any captured line, of up to 4,096 points, is decoded into three floats a point
 abbrev pub DecodesLines : Type 0
@@ -38,17 +50,46 @@ DecodesEachCode =
     → (length (valuesOf l s) ≡ 3 * n)
     × ((k : ℕ) → k < 3 * n → dequantized (l .model) (l .range) (l .depth) (k % 3) (codeAt l s k) ≡ named (kindOf (l .model) (k % 3)) (getD (valuesOf l s) k nan))
 
--- encoding what was decoded finds the codes again,
+-- each code of an encoded line is what quantizing its value answers
+abbrev pub EncodesEachValue : Type 0
+EncodesEachValue =
+    (l : Layout) (n : ℕ) (vs : List Float) → validLayout l ≡ true → allNumbers vs ≡ true → length vs ≡ 3 * n
+    → let s = packedOf l (quantizedOf l vs) in
+    PackedLine l n s × ((k : ℕ) → k < 3 * n → quantized (l .model) (l .range) (l .depth) (k % 3) (getD vs k nan) ≡ Code (codeAt l s k))
+
+-- encoding what was decoded finds the codes again, each clamped to its channel's ends,
 abbrev pub QuantizesWhatWasDecoded : Type 0
-QuantizesWhatWasDecoded = (l : Layout) (n : ℕ) (s : List ℕ) → PackedLine l n s → quantizedOf l (valuesOf l s) ≡ codesOf l s
+QuantizesWhatWasDecoded = (l : Layout) (n : ℕ) (s : List ℕ) → PackedLine l n s → quantizedOf l (valuesOf l s) ≡ map (clampedTo l) (codesOf l s)
 
--- so that it clears the unused bits and changes nothing else
+-- and packs them, with zeros in the unused bits;
 abbrev pub EncodesWhatWasDecoded : Type 0
-EncodesWhatWasDecoded = (l : Layout) (n : ℕ) (s : List ℕ) → PackedLine l n s → packedOf l (quantizedOf l (valuesOf l s)) ≡ cleared l s
+EncodesWhatWasDecoded =
+    (l : Layout) (n : ℕ) (s : List ℕ) → PackedLine l n s
+    → let t = packedOf l (map (clampedTo l) (codesOf l s)) in
+    (packedOf l (quantizedOf l (valuesOf l s)) ≡ t) × (cleared l t ≡ t)
 
--- and it is accepted, of up to 4,096 points, into as many bytes: any captured line returns
-abbrev pub AcceptsWhatWasDecoded : Type 0
-AcceptsWhatWasDecoded = (l : Layout) (n : ℕ) (s : List ℕ) → PackedLine l n s → n ≤ mostPoints → encodeAnswer l (valuesOf l s) (length s) ≡ Points n
+-- so that where no code lies outside its ends the line returns, its unused bits cleared and nothing else changed,
+abbrev pub ReturnsWithinEnds : Type 0
+ReturnsWithinEnds =
+    (l : Layout) (n : ℕ) (s : List ℕ) → PackedLine l n s → withinEnds l (codesOf l s) ≡ true → packedOf l (quantizedOf l (valuesOf l s)) ≡ cleared l s
+
+-- and in every line none does: the ends are those of all codes
+abbrev pub EveryCodeWithinEnds : Type 0
+EveryCodeWithinEnds = (l : Layout) (n : ℕ) (s : List ℕ) → PackedLine l n s → withinEnds l (codesOf l s) ≡ true
+
+-- demand 2's last sentence: any captured line of up to 4,096 points, decoded into three floats a point and then encoded into as many bytes, is accepted both times with its count of points, and returns, unused bits cleared, whatever the two outputs held before
+abbrev pub AnyLineReturns : Type 0
+AnyLineReturns =
+    (l : Layout) (n : ℕ) (s : List ℕ) → PackedLine l n s → n ≤ mostPoints
+    → (floats : List Float) (bytes : List ℕ) → length floats ≡ 3 * n → length bytes ≡ length s
+    → let decoded = decodeOutput l s floats in
+    (decodeAnswer l (length s) (length floats) ≡ Points n)
+    × (encodeAnswer l decoded (length bytes) ≡ Points n)
+    × (encodeOutput l decoded bytes ≡ cleared l s)
+
+-- an empty line counts 0
+abbrev pub CountsEmptyLines : Type 0
+CountsEmptyLines = (l : Layout) → validLayout l ≡ true → (decodeAnswer l 0 0 ≡ Points 0) × (encodeAnswer l [] 0 ≡ Points 0)
 
 -- decoding one point is decoding a line into three floats: where the line is accepted, it is of one point, and the point's values are the line's
 abbrev pub DecodesPointAsLine : Type 0

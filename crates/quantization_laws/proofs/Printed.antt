@@ -10,10 +10,10 @@ use Rattle.layout.specs.declared.range.Range.the-variants.{Narrow, Full}
 use Rattle.layout.specs.declared.kind.Kind.{Kind}
 use Rattle.layout.specs.declared.kind.Kind.the-variants.{Brightness, Difference}
 use Rattle.layout.specs.Layout.{stepOf, topOf}
-use Rattle.quantization.specs.Scale.{scaleOf}
+use Rattle.quantization.specs.Scale.{lowEnd, highEnd, scaleOf}
 use Rattle.quantization.specs.Value.{fractionOf}
 use Rattle.quantization.specs.Code.{unclamped}
-use Rattle.quantization_laws.specs.Printed.{printedValue, printedUnclamped}
+use Rattle.quantization_laws.specs.Printed.{printedValue, printedUnclamped, printedLow, printedHigh}
 
 -- s (a v + b) = (a s) v + b s
 spread : (s a b : ℕ) (v : Fraction) → s · (a · v ⊕ b) ≡ (a * s) · v ⊕ (b * s)
@@ -41,3 +41,7 @@ unclamped-printed Narrow Brightness n v = ap halfUp (sym (spread (stepOf n) 219 
 unclamped-printed Narrow Difference n v = ap halfUp (sym (spread (stepOf n) 224 128 v))
 unclamped-printed Full Brightness n v = ap halfAway (no-base (topOf n · v))
 unclamped-printed Full Difference n v = refl
+
+pub ends-printed : (r : Range) (n : ℕ) → (lowEnd r n ≡ printedLow r n) × (highEnd r n ≡ printedHigh r n)
+ends-printed Narrow n = (refl, refl)
+ends-printed Full n = (refl, refl)

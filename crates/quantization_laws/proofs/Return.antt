@@ -1,5 +1,5 @@
--- A code, as a float and back, is the code: rounding moves span * value by less than half a code. Assumes nothing.
-use mathlib.Core.Path.{_≡_, sym, ap, _∙_, subst}
+-- A code, as a float and back, is the code, clamped: rounding moves span * value by less than half a code. Assumes nothing.
+use mathlib.Core.Path.{_≡_, sym, ap, ap₂, _∙_, subst}
 use Prim.Native.Nat.{ℕ, _+_, _-_, _*_, _/_, _^_, _≤_, _<_}
 use native.Mathlib.Nat.{add-mul}
 use native.Mathlib.Omega.{arith}
@@ -17,12 +17,12 @@ use Rattle.layout.proofs.Depths.{Steps, steps}
 use Rattle.fractions.specs.Fraction.{bounded}
 use Rattle.quantization.specs.declared.scale.Scale.{Scale}
 use Rattle.quantization.specs.declared.code.Coded.the-variants.{Code}
-use Rattle.quantization.specs.Scale.{scaleOf}
+use Rattle.quantization.specs.Scale.{lowEnd, highEnd, scaleOf}
 use Rattle.quantization.specs.Value.{valueOf}
 use Rattle.quantization.specs.Code.{codeOf}
 use Rattle.quantization.specs.inner.Whole.{signedSum, wholeCode}
 use Rattle.quantization.proofs.Codes.{Small, code-of-value, quotient-is}
-use Rattle.quantization.proofs.Scales.{scaleBy, by-step}
+use Rattle.quantization.proofs.Scales.{scaleBy, by-step, ends}
 use Rattle.quantization.proofs.Fields.{U}
 use Rattle.quantization_laws.proofs.Units.{Near, unit, unit-lt, kept-near, grid-is, round-value}
 use Rattle.quantization_laws.proofs.Values.{gap, value-rounds}
@@ -57,25 +57,24 @@ code-returns-clamped sc k S c h =
     ∙ ap Code (lands sc c g U (unit d p) (unit-lt d p S (k .span) D) (subst (λ (x : ℕ). Near x (d * U) (unit d p)) (sym (grid-is d p S (k .span) D)) (kept-near d p S (k .span) D)))
 
 -- ---- the paper's scales, once over n
-pub record Paper (n : ℕ) (sc : Scale) : Type 0 where
+pub record Paper (sc : Scale) : Type 0 where
   pub small : Small sc
   pub some : 0 < sc .span
-  pub low : sc .low ≡ 0
-  pub high : sc .high ≡ topOf n
 
-by-steps : (r : Range) (k : Kind) (n : ℕ) → Steps n → Paper n (scaleBy r (stepOf n) (topOf n) k)
+by-steps : (r : Range) (k : Kind) (n : ℕ) → Steps n → Paper (scaleBy r (stepOf n) (topOf n) (lowEnd r n) (highEnd r n) k)
 by-steps Narrow Brightness n h = omega arith
 by-steps Narrow Difference n h = omega arith
 by-steps Full Brightness n h = omega arith
 by-steps Full Difference n h = omega arith
 
-pub paper : (r : Range) (k : Kind) (n : ℕ) → 8 ≤ n → n ≤ 12 → Paper n (scaleOf r n k)
-paper r k n lo hi = let h = steps n lo hi in subst (Paper n) (by-step r k n h) (by-steps r k n h)
+pub paper : (r : Range) (k : Kind) (n : ℕ) → 8 ≤ n → n ≤ 12 → Paper (scaleOf r n k)
+paper r k n lo hi = let h = steps n lo hi in subst Paper (by-step r k n h) (by-steps r k n h)
 
--- every code of every range, kind and depth comes back
-pub code-returns : (r : Range) (k : Kind) (n c : ℕ) → 8 ≤ n → n ≤ 12 → c ≤ topOf n → codeOf (scaleOf r n k) (valueOf (scaleOf r n k) c) ≡ Code c
+-- every code of every range, kind and depth comes back, clamped
+pub code-returns : (r : Range) (k : Kind) (n c : ℕ) → 8 ≤ n → n ≤ 12 → c ≤ topOf n → codeOf (scaleOf r n k) (valueOf (scaleOf r n k) c) ≡ Code (bounded (lowEnd r n) (highEnd r n) c)
 code-returns r k n c lo hi h =
     let sc = scaleOf r n k in
     let q = paper r k n lo hi in
     let t = steps n lo hi in
-    code-returns-clamped sc (q .small) (q .some) c (omega arith) ∙ ap Code (omega arith)
+    let e = ends r k n in
+    code-returns-clamped sc (q .small) (q .some) c (omega arith) ∙ ap₂ (λ (x y : ℕ). Code (bounded x y c)) (e .0) (e .1)

@@ -4,16 +4,12 @@ use mathlib.Core.Bool.{true, false}
 use mathlib.Core.Path.{_≡_}
 use lib.IntN.{pos}
 use lib.Ieee.{Float, nan, inf, fin, binary32, ofBits}
-use Rattle.fractions.specs.Fraction.{clamp}
-use Rattle.layout.specs.declared.range.Range.{Range}
-use Rattle.layout.specs.declared.kind.Kind.{Kind}
+use Rattle.fractions.specs.Fraction.{bounded, clamp}
 use Rattle.layout.specs.Layout.{rangeOf, kindOf, topOf}
 use Rattle.refusal.specs.Refusal.{notANumber}
 use Rattle.quantization.specs.declared.Quantized.the-variants.{Code, Refused}
-use Rattle.quantization.specs.Scale.{scaleOf}
-use Rattle.quantization.specs.Value.{valueOf}
 use Rattle.quantization.specs.Answer.{channelKnownAt, named, dequantized, quantized}
-use Rattle.quantization_laws.specs.Printed.{printedValue, printedUnclamped}
+use Rattle.quantization_laws.specs.Printed.{printedValue, printedUnclamped, printedLow, printedHigh}
 use Rattle.quantization_laws.specs.Nearest.{NearestTo}
 use Rattle.quantization_laws.specs.Pattern.{fieldOf, patternValue}
 
@@ -23,26 +19,42 @@ Dequantizes =
     (model range n channel c : ℕ) → channelKnownAt model range n channel ≡ true → c ≤ topOf n
     → (v : Float) × (dequantized model range n channel c ≡ named (kindOf model channel) v) × NearestTo (printedValue (rangeOf range) (kindOf model channel) n c) v
 
--- a finite float becomes the number in the paper's line, of the exact value that the paper reads off its bits, clamped to 0 .. 2^n - 1
+-- a finite float becomes the number in the paper's line, of the exact value that the paper reads off its bits, clamped to the paper's ends
 abbrev pub Quantizes : Type 0
 Quantizes =
     (model range n channel bits : ℕ) → channelKnownAt model range n channel ≡ true → fieldOf bits < 255
-    → quantized model range n channel (ofBits binary32 bits) ≡ Code (clamp 0 (topOf n) (printedUnclamped (rangeOf range) (kindOf model channel) n (patternValue bits)))
+    → let r = rangeOf range in
+    quantized model range n channel (ofBits binary32 bits) ≡ Code (clamp (printedLow r n) (printedHigh r n) (printedUnclamped r (kindOf model channel) n (patternValue bits)))
 
--- plus infinity becomes the top, minus infinity the bottom, and a NaN is refused by 12
+-- plus infinity becomes the higher end, minus infinity the lower, and a NaN is refused by 12
 abbrev pub QuantizesOthers : Type 0
 QuantizesOthers =
     (model range n channel : ℕ) → channelKnownAt model range n channel ≡ true
-    → (quantized model range n channel (inf false) ≡ Code (topOf n))
-    × (quantized model range n channel (inf true) ≡ Code 0)
+    → (quantized model range n channel (inf false) ≡ Code (printedHigh (rangeOf range) n))
+    × (quantized model range n channel (inf true) ≡ Code (printedLow (rangeOf range) n))
     × (quantized model range n channel nan ≡ Refused notANumber)
 
--- the code of the value 0 gives plus zero, at every depth from 8 to 12
+-- the code of a known channel whose fraction is 0 becomes plus zero
 abbrev pub ZeroIsPlus : Type 0
-ZeroIsPlus = (r : Range) (k : Kind) (n : ℕ) → 8 ≤ n → n ≤ 12 → valueOf (scaleOf r n k) (scaleOf r n k .base) ≡ fin false 0 (pos 0)
+ZeroIsPlus =
+    (model range n channel c : ℕ) → channelKnownAt model range n channel ≡ true → c ≤ topOf n
+    → printedValue (rangeOf range) (kindOf model channel) n c .num ≡ pos 0
+    → dequantized model range n channel c ≡ named (kindOf model channel) (fin false 0 (pos 0))
 
--- whatever float dequantizing a code answers, quantizing it answers the code
+-- whatever float dequantizing a code answers, quantizing it answers the code, clamped to the ends
 abbrev pub Returns : Type 0
 Returns =
+    (model range n channel c : ℕ) (v : Float) → dequantized model range n channel c ≡ named (kindOf model channel) v
+    → quantized model range n channel v ≡ Code (bounded (printedLow (rangeOf range) n) (printedHigh (rangeOf range) n) c)
+
+-- which is the code itself where it lies within them,
+abbrev pub ReturnsWithin : Type 0
+ReturnsWithin =
+    (model range n channel c : ℕ) (v : Float) → dequantized model range n channel c ≡ named (kindOf model channel) v
+    → printedLow (rangeOf range) n ≤ c → c ≤ printedHigh (rangeOf range) n → quantized model range n channel v ≡ Code c
+
+-- and so every code comes back: the ends are those of all codes
+abbrev pub ReturnsEvery : Type 0
+ReturnsEvery =
     (model range n channel c : ℕ) (v : Float) → dequantized model range n channel c ≡ named (kindOf model channel) v
     → quantized model range n channel v ≡ Code c

@@ -1,4 +1,4 @@
--- The eight lines of document 01, "Codes and floats", as the paper prints them: n is the depth, s = 2^(n-8), m = 2^n - 1, c a code, v a value. Assumes nothing.
+-- The eight lines of document 01, "Codes and floats", and the ends of its clamp, as the paper prints them: n is the depth, s = 2^(n-8), m = 2^n - 1, c a code, v a value. Assumes nothing.
 use Prim.Native.Nat.{ℕ, _-_, _*_, _^_}
 use lib.IntN.{ℤ, pos, _-ℤ_}
 use Rattle.fractions.specs.Fraction.{Fraction, _over_, _·_, _⊕_, plusHalf, floor, halfAway}
@@ -29,3 +29,12 @@ printedUnclamped Narrow Brightness n v = let s = stepOf n in floor (plusHalf (s 
 printedUnclamped Narrow Difference n v = let s = stepOf n in floor (plusHalf (s · (224 · v ⊕ 128)))
 printedUnclamped Full Brightness n v = let m = topOf n in halfAway (m · v)
 printedUnclamped Full Difference n v = let m = topOf n in halfAway (m · v ⊕ 2 ^ (n - 1))
+
+-- the ends of the clamp: 0 .. 2^n - 1, in both ranges
+abbrev pub printedLow : Range → ℕ → ℕ
+printedLow Narrow n = 0
+printedLow Full n = 0
+
+abbrev pub printedHigh : Range → ℕ → ℕ
+printedHigh Narrow n = 2 ^ n - 1
+printedHigh Full n = 2 ^ n - 1

@@ -2,7 +2,7 @@
 use Prim.Native.Nat.{ℕ, _*_, _≤_}
 use mathlib.Core.Bool.{true}
 use mathlib.Core.Path.{_≡_}
-use mathlib.Core.List.{List}
+use mathlib.Core.List.{List, []}
 use lib.Ieee.{Float}
 use lib.ListN.{length}
 use Rattle.layout.specs.declared.Layout.{Layout}
@@ -32,6 +32,10 @@ UnpacksToCodes = (l : Layout) (n : ℕ) (s : List ℕ) → PackedLine l n s → 
 abbrev pub PacksToBytes : Type 0
 PacksToBytes = (l : Layout) (n : ℕ) (cs : List ℕ) → CodeLine l n cs → PackedLine l n (packedOf l cs)
 
+-- whatever the codes within the depth, the unused bits of a packed line are zero
+abbrev pub PacksUnusedBitsAsZero : Type 0
+PacksUnusedBitsAsZero = (l : Layout) (n : ℕ) (cs : List ℕ) → CodeLine l n cs → cleared l (packedOf l cs) ≡ packedOf l cs
+
 -- and so it is accepted, of up to 4,096 points, into an output as long as the line that it came from
 abbrev pub AcceptsWhatWasUnpacked : Type 0
 AcceptsWhatWasUnpacked = (l : Layout) (n : ℕ) (s : List ℕ) → PackedLine l n s → n ≤ mostPoints → packAnswer l (codesOf l s) (length s) ≡ Points n
@@ -42,3 +46,7 @@ AcceptsWhatWasPacked = (l : Layout) (n : ℕ) (cs : List ℕ) → CodeLine l n c
 -- the codes of values are codes of the depth, so that all this holds of an encoded line too
 abbrev pub EncodesToCodes : Type 0
 EncodesToCodes = (l : Layout) (n : ℕ) (vs : List Float) → validLayout l ≡ true → length vs ≡ 3 * n → CodeLine l n (quantizedOf l vs)
+
+-- an empty line counts 0
+abbrev pub CountsEmptyLines : Type 0
+CountsEmptyLines = (l : Layout) → validLayout l ≡ true → (unpackAnswer l 0 0 ≡ Points 0) × (packAnswer l [] 0 ≡ Points 0)

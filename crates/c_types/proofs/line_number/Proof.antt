@@ -19,10 +19,10 @@ refused-requires : tie.Need-refused-requires
 refused-requires c κs = search needs
 
 returns : tie.Need-returns
-returns c = let k = c .before .before .answer .given in of-points (k .0 .0) _ (k .1) (c .if1 .taken) (kept (k .0 .0) (omega arith))
+returns c = let k = c .before .before .answer .given in of-points (k .0 .0) _ (k .1) (omega arith) (kept (k .0 .0) (omega arith))
 
 returns-2 : tie.Need-returns-2
-returns-2 c = let k = c .before .before .answer .given in of-too-many (k .0 .0) (k .1) (c .if1 .left)
+returns-2 c = let k = c .before .before .answer .given in of-too-many (k .0 .0) (k .1) (omega arith)
 
 returns-3 : tie.Need-returns-3
 returns-3 c = rw (c .before .before .answer2 .given .1) (passed (c .before .before .answer2 .given .0 .0) (omega arith) (c .refused .result) (c .refused .ensures))
