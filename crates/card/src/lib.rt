@@ -2,6 +2,8 @@
 ghost use mathlib.Core.Path.{_≡_};
 ghost use lib.ListN.{length};
 ghost use Rattle.card.specs.Rewriting.{rewriteAnswer, rewriteOutput};
+pub use card_finder::FoundCard;
+pub use card_finder::find_card;
 pub use card_reader::CardReading;
 pub use card_reader::read;
 pub use card_table::Card;

@@ -4,7 +4,7 @@ ghost use lib.ListN.{length};
 ghost use Prim.Native.Nat.{_≤_};
 ghost use Rattle.listing.specs.List.{listText};
 ghost use Rattle.listing.specs.Text.{longestList};
-ghost use Rattle.listing_program.specs.Input.{Within};
+ghost use Rattle.listing_program.specs.inner.Input.{Within};
 ghost use Rattle.listing_program.specs.Ran.{ListedAs, fits, Holds};
 use card_table::Card;
 use libc::STDERR_FILENO;

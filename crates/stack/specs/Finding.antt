@@ -32,7 +32,7 @@ abbrev pub part : List ℕ → Found → List ℕ
 part s (At k) = cardAt s k
 part s (Refused n) = []
 
--- and its place, as a place is told, a block of memory and a byte in it: k cards past the stack's own, or at it
+-- and its place, a block of memory and a byte in it: k cards past the stack's own, or at it
 abbrev pub placed : ℕ × ℕ → Found → ℕ × ℕ
 placed start (At k) = (start .0, cardSize * k + start .1)
 placed start (Refused n) = start

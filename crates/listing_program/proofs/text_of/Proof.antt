@@ -36,8 +36,8 @@ returns-2 c =
     let l = c .before .before .before .before in
     let s = l .before .before .before .before in
     let a = s .args in
-    let told = c .enum-told .given in
-    absurd (not-refused (now (a .stack)) (now (a .text)) (s .pre) (told .0 .0) (sym (told .1) ∙ l .list .ensures .0))
+    let g = c .enum-told .given in
+    absurd (not-refused (now (a .stack)) (now (a .text)) (s .pre) (g .0 .0) (sym (g .1) ∙ l .list .ensures .0))
 
 pub text-of-spec : {M : Type 1} → statement M
 text-of-spec =

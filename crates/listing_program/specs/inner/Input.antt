@@ -1,4 +1,4 @@
--- What a reading of the input answers. Assumes nothing.
+-- What a reading of the input answers. Only private functions cite it. Assumes nothing.
 use Prim.Native.Nat.{ℕ, _≤_}
 use Rattle.listing_program.specs.declared.Input.{Input}
 use Rattle.listing_program.specs.declared.Input.the-variants.{Bytes, Failed}
