@@ -4,7 +4,8 @@ use mathlib.Core.List.{List}
 use Prim.Native.Nat.{ℕ, _+_, _*_, _/_, _%_, _≤_, _<_}
 use native.Mathlib.Omega.{arith}
 use lib.ListN.{length, getD}
-use Rattle.lists.specs.Lists.{tabulate, written}
+use Rattle.lists.specs.Lists.{tabulate}
+use Rattle.lists.specs.inner.Stores.{written}
 use Rattle.lists.proofs.Lists.{tabulate-same}
 use Rattle.lists.proofs.Filled.{Filled, filled-more, filled-all}
 use Rattle.color_model.specs.Line.{convertedAt, convertedOf}

@@ -3,7 +3,7 @@ ghost use mathlib.Core.Path.{_≡_};
 ghost use mathlib.Core.Bool.{true};
 ghost use Prim.Native.Nat.{_+_, _*_, _<_, _≤_};
 ghost use lib.ListN.{length};
-ghost use Rattle.lists.specs.Lists.{written};
+ghost use Rattle.lists.specs.inner.Stores.{written};
 ghost use Rattle.layout.specs.Layout.{validLayout};
 ghost use Rattle.quantization.specs.Value.{valueOf};
 ghost use Rattle.quantization.specs.inner.Fitted.{Fitted};
