@@ -7,6 +7,7 @@ use refusal::Written;
 
 mod bytes;
 mod field;
+mod numbers;
 mod store;
 
 pub use field::Field;
