@@ -2,12 +2,14 @@
 ghost use mathlib.Core.Path.{_≡_};
 ghost use lib.ListN.{length};
 ghost use Rattle.color_model.specs.Line.{convertible, conversionAnswer, toYcbcrOutput, toRgbOutput};
+use crate::numbers::depth_of;
 use layout::Depth;
 use layout::Range;
 use line::LineAnswer;
 
 mod convert;
 mod linear;
+mod numbers;
 mod to_rgb;
 mod to_ycbcr;
 mod weights;
@@ -42,7 +44,7 @@ fn answer(
     if !((codes.len() % 3 == 0) & (n <= line::MOST_POINTS) & (output == 3 * n)) {
         return LineAnswer::Refused(refusal::WRONG_LINE_OR_OUTPUT);
     }
-    if !line::all_within(codes, Depth::of(depth).top()) {
+    if !line::all_within(codes, depth_of(depth).top()) {
         return LineAnswer::Refused(refusal::CODE_TOO_HIGH);
     }
     LineAnswer::Points(n)
@@ -64,7 +66,7 @@ pub fn rgb_to_ycbcr(
     match answer(primaries, depth, range_in, range_out, codes, out.len()) {
         LineAnswer::Points(n) => {
             let rows = to_ycbcr::rows(primaries, depth, range_in, range_out);
-            convert::points(rows, Depth::of(depth).top(), codes, out, n);
+            convert::points(rows, depth_of(depth).top(), codes, out, n);
             LineAnswer::Points(n)
         }
         LineAnswer::Refused(number) => LineAnswer::Refused(number),
@@ -86,7 +88,7 @@ pub fn ycbcr_to_rgb(
     match answer(primaries, depth, range_in, range_out, codes, out.len()) {
         LineAnswer::Points(n) => {
             let rows = to_rgb::rows(primaries, depth, range_in, range_out);
-            convert::points(rows, Depth::of(depth).top(), codes, out, n);
+            convert::points(rows, depth_of(depth).top(), codes, out, n);
             LineAnswer::Points(n)
         }
         LineAnswer::Refused(number) => LineAnswer::Refused(number),

@@ -5,6 +5,7 @@ ghost use Rattle.decoding.specs.Decode.{decodeAnswer, decodeOutput, deco
 use layout::Layout;
 use line::LineAnswer;
 use line::Point;
+use quantization::LayoutScales;
 use quantization::Scales;
 
 mod field;
@@ -22,15 +23,15 @@ pub fn decode_line(layout: Layout, packed: &[u8], out: &mut [f32]) -> LineAnswer
     ensures answer { λ r. ⌜ r ≡ decodeAnswer layout (length (now (packed .entry))) (length (now (out .entry))) ⌝ }
     ensures memory { λ _. ⌜ now (out .exit) ≡ decodeOutput layout (now (packed .entry)) (now (out .entry)) ⌝ }
 {
-    if !layout.valid() {
+    let LayoutScales::Known(scales) = Scales::of(layout) else {
         return LineAnswer::Refused(refusal::OUTSIDE);
-    }
+    };
     let size = layout.bytes as usize;
     let n = packed.len() / size;
     if !((packed.len() % size == 0) & (n <= line::MOST_POINTS) & (out.len() == 3 * n)) {
         return LineAnswer::Refused(refusal::WRONG_LINE_OR_OUTPUT);
     }
-    points::all(layout, Scales::of(layout), packed, out, n);
+    points::all(layout, scales, packed, out, n);
     LineAnswer::Points(n)
 }
 

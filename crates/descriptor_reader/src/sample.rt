@@ -14,6 +14,7 @@ use crate::number::number4;
 use descriptor_samples::Sample;
 use descriptor_samples::Samples;
 use layout::Depth;
+use layout::KnownDepth;
 use layout::Layout;
 
 // The sample that the bytes from place i on hold.
@@ -89,7 +90,10 @@ pub(crate) fn read_samples(
         return DescriptorReading::Refused(refusal::WRONG_SAMPLE);
     }
     let length = samples.first.length;
-    let range = samples.range(model, Depth::of(length + 1));
+    let KnownDepth::Known(depth) = Depth::of(length + 1) else {
+        return DescriptorReading::Refused(refusal::WRONG_SAMPLE);
+    };
+    let range = samples.range(model, depth);
     if range == 0 {
         return DescriptorReading::Refused(refusal::NO_RANGE);
     }

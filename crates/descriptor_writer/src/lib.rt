@@ -7,6 +7,7 @@ use layout::Layout;
 use refusal::Written;
 
 mod field;
+mod numbers;
 mod parts;
 mod store;
 

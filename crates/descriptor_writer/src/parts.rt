@@ -5,11 +5,11 @@ ghost use Rattle.layout.specs.Layout.{depthKnown};
 ghost use Rattle.descriptor_writer.specs.Sample.{sampleBytes, sampleOf};
 ghost use Rattle.descriptor_writer.specs.Writing.{frontBytes};
 use crate::field::Field;
+use crate::numbers::depth_of;
+use crate::numbers::range_of;
 use descriptor_samples::Limits;
-use layout::Depth;
 use layout::Kind;
 use layout::Layout;
-use layout::Range;
 
 // Bytes 0 to 27 of a layout's descriptor.
 pub(crate) fn front_bytes(layout: Layout) -> [u8; 28]
@@ -53,7 +53,7 @@ pub(crate) fn sample_bytes(layout: Layout, field: Field) -> [u8; 16]
     ensures { λ r. ⌜ r ≡ sampleBytes (sampleOf layout field) ⌝ }
 {
     let kind = Kind::of(layout.model, field.channel);
-    let limits = Limits::of(Range::of(layout.range), Depth::of(layout.depth), kind);
+    let limits = Limits::of(range_of(layout.range), depth_of(layout.depth), kind);
     let depth = layout.depth;
     let lower = limits.lower;
     let upper = limits.upper;

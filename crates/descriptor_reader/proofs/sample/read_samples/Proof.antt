@@ -1,11 +1,10 @@
 -- `descriptor_reader::sample::read_samples` meets its contract, row by row. Assumes nothing.
 use mathlib.Core.Path.{_≡_, sym, ap, _∙_, subst}
-use mathlib.Core.Bool.{true}
+use mathlib.Core.Bool.{true, false, true≢false}
 use Prim.Native.Nat.{ℕ, _+_}
 use lib.Dec.{eqb}
 use borrow.Author.Tests.{eq-eqb, ne-eqb, not-true, not-false}
-use Rattle.layout.specs.Layout.{bitsOf}
-use Rattle.layout.proofs.Depths.{known-bits}
+use Rattle.layout.proofs.Known.{depth-bits, depth-unknown}
 use Rattle.descriptor_samples.specs.Samples.{samplesRight, rangeIn}
 use Rattle.descriptor_reader.proofs.Right.{right-says, length-lt}
 use Rattle.descriptor_reader.proofs.Answers.{refused-5, refused-6, accepted-as}
@@ -17,12 +16,12 @@ right : (c : tie.Else1) → let a = c .before .before .args in samplesRight (a .
 right c = sym (c .before .right .ensures) ∙ not-false (c .before .right .result) (c .if1 .left)
 
 -- the range's number, at the samples' own depth
-ranged : (c : tie.After-range) → let a = c .before .before .before .before .args in c .range .result ≡ rangeIn (a .model) (a .samples .first .length + 1) (a .samples)
+ranged : (c : tie.After-range) → let a = c .before .before .before .before .before .before .before .args in c .range .result ≡ rangeIn (a .model) (a .samples .first .length + 1) (a .samples)
 ranged c =
-    let a = c .before .before .before .before .args in
-    c .range .ensures
-    ∙ ap (λ (n : ℕ). rangeIn (a .model) n (a .samples))
-    (ap bitsOf (c .before .of .ensures) ∙ known-bits (a .samples .first .length + 1) (right-says (a .bytes) (a .samples) (right (c .before .before)) .depth))
+    let d = c .before .before in
+    let o = d .before .before in
+    let a = o .before .before .before .args in
+    c .range .ensures ∙ ap (λ (n : ℕ). rangeIn (a .model) n (a .samples)) (depth-bits (a .samples .first .length + 1) (sym (o .of .ensures) ∙ d .depth .given .1))
 
 right-requires : tie.Need-right-requires
 right-requires c κs = search needs
@@ -38,23 +37,39 @@ add-of c = let a = c .before .before .args in record { fits = length-lt (a .byte
 of-requires : tie.Need-of-requires
 of-requires c κs = search needs
 
+enum-known-depth : tie.Need-enum-known-depth
+enum-known-depth c = search needs
+
+enum-told : tie.Need-enum-told
+enum-told c = search needs
+
+-- the samples are right, so that their length is a depth's
+returns-2 : tie.Need-returns-2
+returns-2 c =
+    let o = c .before .before in
+    let a = o .before .before .before .args in
+    let e : true ≡ false = sym (right-says (a .bytes) (a .samples) (right (o .before)) .depth) ∙ depth-unknown (a .samples .first .length + 1) (sym (o .of .ensures) ∙ c .enum-told .given .1) in
+    absurd (true≢false e)
+
 range-requires : tie.Need-range-requires
 range-requires c κs = search needs
 
-returns-2 : tie.Need-returns-2
-returns-2 c =
-    let a = c .before .before .before .before .before .args in
-    refused-6 (a .model) (a .primaries) (a .bytes) (a .samples) (right (c .before .before .before))
+returns-3 : tie.Need-returns-3
+returns-3 c =
+    let e = c .before .before .before .before .before .before in
+    let a = e .before .before .args in
+    refused-6 (a .model) (a .primaries) (a .bytes) (a .samples) (right e)
     (subst (λ (k : ℕ). eqb k 0 ≡ true) (ranged (c .before)) (eq-eqb (c .before .range .result) 0 (c .if2 .taken)))
 
 layout-from-requires : tie.Need-layout-from-requires
-layout-from-requires c κs = (c .before .before .before .before .before .pre, right (c .before .before .before))
+layout-from-requires c κs = let e = c .before .before .before .before .before .before in (e .before .before .pre, right e)
 
-returns-3 : tie.Need-returns-3
-returns-3 c =
+returns-4 : tie.Need-returns-4
+returns-4 c =
     let e = c .before in
-    let a = e .before .before .before .before .before .args in
-    accepted-as (a .model) (a .primaries) (a .bytes) (a .samples) (right (e .before .before .before)) (e .before .range .result) (c .layout-from .result)
+    let r = e .before .before .before .before .before .before in
+    let a = r .before .before .args in
+    accepted-as (a .model) (a .primaries) (a .bytes) (a .samples) (right r) (e .before .range .result) (c .layout-from .result)
     (ranged (e .before)) (ne-eqb (e .before .range .result) 0 (e .if2 .left)) (c .layout-from .ensures)
 
 pub read-samples-spec : {M : Type 1} → statement M
@@ -65,7 +80,10 @@ read-samples-spec =
     returns
     add-of
     of-requires
-    range-requires
+    enum-known-depth
+    enum-told
     returns-2
+    range-requires
+    returns-3
     layout-from-requires
-    returns-3)
+    returns-4)

@@ -14,14 +14,14 @@ use Rattle.descriptor_writer.proofs.parts.sample_bytes.Tie as tie
 of-requires : tie.Need-of-requires
 of-requires c κs = search needs
 
+range-of-requires : tie.Need-range-of-requires
+range-of-requires c κs = search needs
+
+depth-of-requires : tie.Need-depth-of-requires
+depth-of-requires c κs = search needs
+
 of-requires-2 : tie.Need-of-requires-2
 of-requires-2 c κs = search needs
-
-of-requires-3 : tie.Need-of-requires-3
-of-requires-3 c κs = search needs
-
-of-requires-4 : tie.Need-of-requires-4
-of-requires-4 c κs = search needs
 
 sub-t10 : tie.Need-sub-t10
 sub-t10 c = let s = c .before .before .before .before in omega (arith, known-between (s .args .layout .depth) (s .pre))
@@ -43,9 +43,9 @@ unfolding sampleOf
 returns c =
     let s = c .before .before .before .before in
     let a = s .args in
-    let l = c .of4 .result in
-    let n = ap bitsOf (c .before .of3 .ensures) ∙ known-bits (a .layout .depth) (s .pre) in
-    let e : l ≡ limitsOf (rangeOf (a .layout .range)) (a .layout .depth) (kindOf (a .layout .model) (a .field .channel)) = c .of4 .ensures ∙ (λ i. limitsOf (c .before .before .of2 .ensures i) (n i) (c .before .before .before .of .ensures i)) in
+    let l = c .of2 .result in
+    let n = ap bitsOf (c .before .depth-of .ensures) ∙ known-bits (a .layout .depth) (s .pre) in
+    let e : l ≡ limitsOf (rangeOf (a .layout .range)) (a .layout .depth) (kindOf (a .layout .model) (a .field .channel)) = c .of2 .ensures ∙ (λ i. limitsOf (c .before .before .range-of .ensures i) (n i) (c .before .before .before .of .ensures i)) in
     let o : a .field .offset < 256 = omega arith in
     let h : l .lower < 65536 = omega arith in
     let k : l .upper < 65536 = omega arith in
@@ -64,9 +64,9 @@ sample-bytes-spec =
     tie.close
     (tie.spec
     of-requires
+    range-of-requires
+    depth-of-requires
     of-requires-2
-    of-requires-3
-    of-requires-4
     sub-t10
     cast-t12
     cast-t14

@@ -1,0 +1,31 @@
+-- `color_model::numbers::range_of` meets its contract: a known number has a range. Assumes nothing.
+use borrow.Author.Needs.{needs}
+use mathlib.Core.Path.{_≡_, sym, _∙_}
+use mathlib.Core.Bool.{true, false, true≢false}
+use Rattle.layout.proofs.Known.{range-told, range-unknown}
+use Rattle.color_model.proofs.numbers.range_of.Statement.{statement}
+use Rattle.color_model.proofs.numbers.range_of.Tie as tie
+
+of-requires : tie.Need-of-requires
+of-requires c κs = search needs
+
+enum-known-range : tie.Need-enum-known-range
+enum-known-range c = search needs
+
+enum-told : tie.Need-enum-told
+enum-told c = search needs
+
+returns : tie.Need-returns
+returns c =
+    let k = c .before in
+    let o = k .before .before in
+    range-told (o .before .args .number) (sym (o .of .ensures) ∙ k .range .given .1) .1
+
+returns-2 : tie.Need-returns-2
+returns-2 c =
+    let o = c .before .before in
+    let e : true ≡ false = sym (o .before .pre) ∙ range-unknown (o .before .args .number) (sym (o .of .ensures) ∙ c .enum-told .given .1) in
+    absurd (true≢false e)
+
+pub range-of-spec : {M : Type 1} → statement M
+range-of-spec = tie.close (tie.spec of-requires enum-known-range enum-told returns returns-2)
