@@ -1,11 +1,12 @@
 -- Pieces stored one after the other. Assumes nothing.
-use mathlib.Core.Path.{_≡_, refl, sym, ap, ap₂, _∙_, subst}
-use mathlib.Core.List.{List, [], _∷_, _++_}
+use mathlib.Core.Path.{_≡_, refl, sym, ap, _∙_, subst}
+use mathlib.Core.List.{List, [], _∷_, _++_, append-nil, append-assoc}
 use Prim.Native.Nat.{ℕ, _+_, _-_, _≤_, _<_, suc, min}
 use native.Mathlib.Nat.{add-zero, add-suc, suc-add}
 use native.Mathlib.Omega.{arith, min-cases}
-use lib.ListN.{length, getD, take, drop, set, length-append, take-append-drop}
-use lib.Seq.{sets, sets-eq, set-out, length-sets, take-suc, take-all, length-take-le}
+use borrow.Rule.Slice.PartMut.{putMid}
+use lib.ListN.{length, length-drop, take, drop, set, length-append, take-append-drop, drop-of-length-le}
+use lib.Seq.{sets, sets-eq, set-out, length-sets, take-all, length-take-le, drop-drop}
 use Rattle.text_writer.specs.Put.{Put}
 
 -- two runs of stores, the second right after the first
@@ -41,36 +42,48 @@ module _ {p q xs ys zs : List ℕ} {at m next : ℕ} where
 pub put-as : {p q xs ys : List ℕ} {at next : ℕ} → p ≡ q → Put p at xs ys next → Put q at xs ys next
 put-as {p} {q} {xs} {ys} {at} {next} e a = subst (λ (t : List ℕ). Put t at xs ys next) e a
 
--- ---- a piece, byte by byte: what is stored before index next
+-- ---- a piece that is copied, as far as the output goes
 
-module _ (p xs : List ℕ) (at : ℕ) where
-  abbrev pub stored : ℕ → List ℕ
-  stored next = sets xs at (take (next - at) p)
+module _ (p xs : List ℕ) (at next : ℕ) (e : next ≡ min (at + length p) (length xs)) where
+  -- the bytes of it that are, and the bytes of the output that they replace
+  abbrev piece : List ℕ
+  piece = take (next - at) p
 
-  pub stored-none : xs ≡ stored at
-  stored-none = let e : at - at ≡ 0 = omega arith in sym (ap (λ (k : ℕ). sets xs at (take k p)) e)
+  abbrev pub replaced : List ℕ
+  replaced = take (next - at) (drop at xs)
 
-  module _ (next : ℕ) {ys : List ℕ} (from : at ≤ next) (s : ys ≡ stored next) where
-    at-next : next ≤ at + length p → at + length (take (next - at) p) ≡ next
-    at-next h = omega (arith, length-take-le (next - at) p (omega arith))
+  module _ (h : at < next) where
+    pub long : length piece ≡ next - at
+    long = length-take-le (next - at) p (omega (arith, e))
 
-    pub stored-next : next < at + length p → set ys next (getD p (next - at) 0) ≡ stored (next + 1)
-    stored-next h =
-        let k : next + 1 - at ≡ suc (next - at) = omega arith in
-        let t : take (next + 1 - at) p ≡ take (next - at) p ++ (getD p (next - at) 0 ∷ []) = ap (λ (n : ℕ). take n p) k ∙ take-suc p (next - at) 0 (omega arith) in
-        ap₂ (λ (ws : List ℕ) (n : ℕ). set ws n (getD p (next - at) 0)) s (sym (at-next (omega arith)))
-        ∙ sets-join xs at (take (next - at) p) (getD p (next - at) 0 ∷ [])
-        ∙ ap (sets xs at) (sym t)
+    pub as-long : length replaced ≡ next - at
+    as-long = length-take-le (next - at) (drop at xs) (simp length-drop (omega (arith, e)))
 
-    pub stored-all : next ≤ at + length p → min (at + length p) (length xs) ≤ next → ys ≡ sets xs at p
-    stored-all h g =
-        min-cases (at + length p) (length xs) (ys ≡ sets xs at p)
-        (λ l e. s ∙ ap (sets xs at) (take-all (next - at) p (omega arith)))
-        (λ l e.
-        let front = take (next - at) p in
-        s ∙ sym (sets-past (stored next) (at + length front) (drop (next - at) p) (omega (arith, length-sets xs at front, at-next h)))
-        ∙ sets-join xs at front (drop (next - at) p)
+    -- the rest of it would be stored behind the end
+    cut : sets xs at piece ≡ sets xs at p
+    cut =
+        min-cases (at + length p) (length xs) (sets xs at piece ≡ sets xs at p)
+        (λ l m. ap (sets xs at) (take-all (next - at) p (omega arith)))
+        (λ l m.
+        sym (sets-past (sets xs at piece) (at + length piece) (drop (next - at) p) (omega (arith, length-sets xs at piece, long)))
+        ∙ sets-join xs at piece (drop (next - at) p)
         ∙ ap (sets xs at) (take-append-drop (next - at) p))
+
+    pub stored : {ys : List ℕ} → ys ≡ take (length piece) piece ++ drop (length piece) replaced → putMid at (next - at) xs ys ≡ sets xs at p
+    stored {ys} c =
+        let all : take (length piece) piece ++ drop (length piece) replaced ≡ piece = rw (take-all (length piece) piece (omega arith), drop-of-length-le replaced {i = length piece} (omega (arith, long, as-long))) (append-nil piece) in
+        ap (putMid at (next - at) xs) (c ∙ all)
+        ∙ ap (λ (zs : List ℕ). take at xs ++ (piece ++ zs)) (drop-drop (next - at) at xs ∙ ap (λ (n : ℕ). drop (at + n) xs) (sym long))
+        ∙ sym (append-assoc (take at xs) piece (drop (at + length piece) xs))
+        ∙ sym (sets-eq piece xs at (omega (arith, long, e)))
+        ∙ cut
+
+  -- where there is no place for any
+  pub nothing-stored : next ≤ at → xs ≡ sets xs at p
+  nothing-stored h =
+      min-cases (at + length p) (length xs) (xs ≡ sets xs at p)
+      (λ l m. ap (sets xs at) (take-all 0 p (omega arith)))
+      (λ l m. sym (sets-past xs at p (omega arith)))
 
 -- a text at the front of an output that can hold it, and behind it what was there before
 pub front : {p xs ys : List ℕ} {next : ℕ} → length p ≤ length xs → Put p 0 xs ys next → (next ≡ length p) × (ys ≡ p ++ drop next xs)

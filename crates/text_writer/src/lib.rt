@@ -23,10 +23,8 @@ pub fn put(piece: &[u8], at: usize, out: &mut [u8]) -> usize
     ensures { λ r. ⌜ Put (now (piece .entry)) at (now (out .entry)) (now (out .exit)) r ⌝ }
 {
     let end = end_of(at, piece.len(), out.len());
-    let mut next = at;
-    while next < end {
-        out[next] = piece[next - at];
-        next += 1;
+    if at < end {
+        bytes::copy(&piece[..end - at], &mut out[at..end]);
     }
     end
 }
