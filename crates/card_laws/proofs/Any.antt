@@ -12,7 +12,8 @@ use Rattle.lists.proofs.Tests.{and3}
 use Rattle.card_table.specs.declared.facts.Facts.{Facts}
 use Rattle.card_table.specs.Edition.{hasAccess, leastEdition}
 use Rattle.card_table.specs.Facts.{closed, accessKnown, factsValid}
-use Rattle.card_reader.specs.Reading.{writerOf, accessOf, factsIn, frontRight}
+use Rattle.card_table.specs.Access.{accessOf}
+use Rattle.card_reader.specs.Reading.{writerOf, factsIn, frontRight}
 use Rattle.card_reader.proofs.Shown.{Accepted}
 use Rattle.card_writer.specs.Writing.{unwritable, validAt}
 

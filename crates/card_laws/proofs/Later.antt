@@ -15,7 +15,8 @@ use Rattle.card_table.specs.Facts.{closed, accessKnown, factsValid, withAccess}
 use Rattle.card_table.specs.Table.{cardSize, cardBytes}
 use Rattle.card_table.proofs.Table.{least-with, least-some}
 use Rattle.card_reader.specs.declared.CardReading.the-variants.{Shown}
-use Rattle.card_reader.specs.Reading.{accessOf, layoutIn, factsIn, frontRight, accessUnknown, endWrong, readCard}
+use Rattle.card_table.specs.Access.{accessOf, accessUnknown}
+use Rattle.card_reader.specs.Reading.{layoutIn, factsIn, frontRight, endWrong, readCard}
 use Rattle.card_reader.proofs.Answers.{shown}
 use Rattle.card_laws.proofs.Valid.{sizes, valid-with}
 use Rattle.card_laws.proofs.Written.{width-is, height-is, item-is}

@@ -15,7 +15,8 @@ use Rattle.card_table.specs.declared.facts.Facts.{Facts}
 use Rattle.card_table.specs.Edition.{hasAccess, leastEdition}
 use Rattle.card_table.specs.Facts.{closed, accessKnown, factsValid}
 use Rattle.card_table.specs.Table.{cardSize, cardBytes}
-use Rattle.card_reader.specs.Reading.{writerOf, accessOf, layoutIn, factsIn, frontRight, accessUnknown, endWrong}
+use Rattle.card_table.specs.Access.{accessOf, accessUnknown}
+use Rattle.card_reader.specs.Reading.{writerOf, layoutIn, factsIn, frontRight, endWrong}
 use Rattle.card_reader.proofs.Shown.{Accepted}
 use Rattle.card_laws.proofs.Valid.{or-left}
 

@@ -11,7 +11,8 @@ use Rattle.lists.specs.Bytes.{numberAt}
 use Rattle.lists.proofs.Tests.{and-right}
 use Rattle.card_table.specs.Edition.{editionKnown, hasAccess, leastEdition}
 use Rattle.card_table.specs.Facts.{closed, accessKnown}
-use Rattle.card_reader.specs.Reading.{writerOf, accessOf, tableHolds, accessUnknown, endWrong, readCard}
+use Rattle.card_table.specs.Access.{accessOf, tableHolds, accessUnknown}
+use Rattle.card_reader.specs.Reading.{writerOf, endWrong, readCard}
 use Rattle.card_writer.specs.Writing.{unwritable}
 use Rattle.card_reader.specs.declared.CardReading.the-variants.{Shown}
 use Rattle.card_laws.proofs.Valid.{at}

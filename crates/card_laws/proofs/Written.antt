@@ -15,7 +15,8 @@ use Rattle.card_table.specs.Facts.{closed, accessKnown, withAccess}
 use Rattle.card_table.specs.Table.{cardSize, cardBytes}
 use Rattle.card_table.proofs.Table.{length-card, least-with, least-some}
 use Rattle.card_reader.specs.declared.CardReading.the-variants.{Shown}
-use Rattle.card_reader.specs.Reading.{accessOf, layoutIn, factsIn, frontRight, tableHolds, accessUnknown, endWrong, readCard}
+use Rattle.card_table.specs.Access.{accessOf, tableHolds, accessUnknown}
+use Rattle.card_reader.specs.Reading.{layoutIn, factsIn, frontRight, endWrong, readCard}
 use Rattle.card_reader.proofs.Answers.{refused-7, refused-8, shown}
 use Rattle.card_laws.specs.Claims.{shows}
 use Rattle.card_laws.proofs.Valid.{Sizes, sizes, valid-with, At}

@@ -11,7 +11,8 @@ use Rattle.card_table.specs.declared.facts.Facts.{Facts}
 use Rattle.card_table.specs.Edition.{editionKnown}
 use Rattle.card_table.specs.Facts.{closed}
 use Rattle.card_reader.specs.declared.CardReading.the-variants.{Shown}
-use Rattle.card_reader.specs.Reading.{writerOf, accessOf, accessUnknown, endWrong, readCard}
+use Rattle.card_table.specs.Access.{accessOf, accessUnknown}
+use Rattle.card_reader.specs.Reading.{writerOf, endWrong, readCard}
 use Rattle.refusal.specs.declared.Written.the-variants.{Done}
 use Rattle.card_writer.specs.Writing.{unwritable}
 use Rattle.card.specs.Rewriting.{rewriteAnswer, rewriteOutput}

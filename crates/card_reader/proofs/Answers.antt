@@ -9,7 +9,8 @@ use Rattle.lists.proofs.Tests.{pass, stop}
 use Rattle.card_table.specs.Edition.{editionKnown}
 use Rattle.card_table.specs.Table.{cardSize}
 use Rattle.card_reader.specs.declared.CardReading.the-variants.{Shown, Refused}
-use Rattle.card_reader.specs.Reading.{writerOf, factsIn, frontRight, accessUnknown, endWrong, readCard}
+use Rattle.card_table.specs.Access.{accessUnknown}
+use Rattle.card_reader.specs.Reading.{writerOf, factsIn, frontRight, endWrong, readCard}
 
 module _ (b : List ℕ) (e : ℕ) where
   pub refused-1 : eqb (length b) cardSize ≡ false → Refused 1 ≡ readCard b e

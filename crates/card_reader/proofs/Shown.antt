@@ -13,7 +13,8 @@ use Rattle.card_table.specs.Edition.{editionKnown}
 use Rattle.card_table.specs.Table.{cardSize}
 use Rattle.card_reader.specs.declared.CardReading.{CardReading}
 use Rattle.card_reader.specs.declared.CardReading.the-variants.{Shown, Refused}
-use Rattle.card_reader.specs.Reading.{writerOf, factsIn, frontRight, accessUnknown, endWrong, readCard, showsItem}
+use Rattle.card_table.specs.Access.{accessUnknown}
+use Rattle.card_reader.specs.Reading.{writerOf, factsIn, frontRight, endWrong, readCard, showsItem}
 
 -- a row that did not apply
 pub passed : (t : Bool) (n : ℕ) (rest : CardReading) (f : Facts) → cond t (Refused n) rest ≡ Shown f → (t ≡ false) × (rest ≡ Shown f)

@@ -11,7 +11,8 @@ use Rattle.card_table.specs.declared.facts.Facts.{Facts}
 use Rattle.card_reader.specs.declared.CardReading.{CardReading}
 use Rattle.card_reader.specs.declared.CardReading.the-variants.{Shown, Refused}
 use Rattle.card_table.specs.Edition.{editionKnown, hasAccess, leastEdition}
-use Rattle.card_table.specs.Facts.{closed, accessKnown, factsValid}
+use Rattle.card_table.specs.Facts.{factsValid}
+use Rattle.card_table.specs.Access.{accessOf, tableHolds, accessUnknown}
 use Rattle.card_table.specs.Table.{cardSize}
 
 -- ---- what the bytes hold
@@ -19,10 +20,6 @@ use Rattle.card_table.specs.Table.{cardSize}
 -- the edition that wrote the card
 abbrev pub writerOf : List ℕ → ℕ
 writerOf b = getD b 1 0
-
--- what is shown of byte 24 of a card of this writer at an edition: the access as it stands where both editions have it, and closed where one has not or it is no access
-unfoldable pub accessOf : ℕ → ℕ → ℕ → ℕ
-accessOf writer access e = cond (hasAccess writer && hasAccess e && accessKnown access) access closed
 
 -- the layout
 unfoldable pub layoutIn : List ℕ → Layout
@@ -59,14 +56,6 @@ frontRight b f =
     && factsValid f
     && eqb (getD b 7 0) 0
     && eqb (getD b 11 0) 0
-
--- the table holds for bytes 24 to 31: written at 2 or later, and not later than it is read (in this paper, written at 2 and read at 2)
-abbrev pub tableHolds : ℕ → ℕ → Bool
-tableHolds writer e = hasAccess writer && leb writer e
-
--- row 10: there byte 24 must be an access, and is none
-unfoldable pub accessUnknown : ℕ → ℕ → ℕ → Bool
-accessUnknown writer access e = tableHolds writer e && not (accessKnown access)
 
 -- row 9 for bytes 24 to 31: not all of those are zero that must be. Written at 1, that is all of them, whoever reads; where the table holds, bytes 25 to 31; of a card written later than it is read, none
 unfoldable pub endWrong : List ℕ → ℕ → Bool

@@ -3,10 +3,10 @@ ghost use mathlib.Core.Path.{_≡_};
 ghost use lib.ListN.{length};
 ghost use Rattle.card_table.specs.Table.{cardSize};
 ghost use Rattle.card_reader.specs.Reading.{layoutIn, factsIn, frontRight};
-use crate::access;
 use crate::number::number2;
 use crate::number::number8;
 use card_table::Facts;
+use card_table::access;
 use card_table::edition::least;
 use layout::Layout;
 

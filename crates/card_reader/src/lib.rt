@@ -3,9 +3,10 @@ ghost use mathlib.Core.Path.{_≡_};
 ghost use Rattle.card_reader.specs.Reading.{readCard, showsItem};
 use card_table::Card;
 use card_table::Facts;
+use card_table::access;
 use card_table::edition;
 
-mod access;
+mod end;
 mod front;
 mod number;
 
@@ -39,7 +40,7 @@ pub fn read(bytes: &[u8], edition: u8) -> CardReading
     if access::unknown(bytes[1], bytes[24], edition) {
         return CardReading::Refused(refusal::UNKNOWN_ACCESS);
     }
-    if access::end_wrong(bytes, edition) {
+    if end::end_wrong(bytes, edition) {
         return CardReading::Refused(refusal::OUTSIDE);
     }
     CardReading::Shown(facts)

@@ -1,3 +1,4 @@
 pub mod Edition
 pub mod Facts
+pub mod Access
 pub mod Table

@@ -6,7 +6,8 @@ use lib.ListN.{replicate, set}
 use Rattle.layout.specs.Layout.{validLayout}
 use Rattle.card_table.specs.Edition.{leastEdition}
 use Rattle.card_table.specs.Facts.{factsValid}
-use Rattle.card_reader.specs.Reading.{accessOf, layoutIn, factsIn, frontRight, accessUnknown, endWrong, readCard}
+use Rattle.card_table.specs.Access.{accessOf, accessUnknown}
+use Rattle.card_reader.specs.Reading.{layoutIn, factsIn, frontRight, endWrong, readCard}
 use Rattle.text_writer.specs.Decimal.{digits, decimal}
 use Rattle.listing.specs.Words.{closedWord, accessWord}
 use Rattle.listing.specs.List.{itemText, sizeText, numberLine, cardLine, firstLine, cardLines, listText}

@@ -15,7 +15,8 @@ use Rattle.card_table.specs.Edition.{editionKnown, leastEdition}
 use Rattle.card_table.specs.Table.{cardSize}
 use Rattle.card_reader.specs.declared.CardReading.{CardReading}
 use Rattle.card_reader.specs.declared.CardReading.the-variants.{Shown, Refused}
-use Rattle.card_reader.specs.Reading.{writerOf, factsIn, frontRight, accessUnknown, endWrong, readCard}
+use Rattle.card_table.specs.Access.{accessUnknown}
+use Rattle.card_reader.specs.Reading.{writerOf, factsIn, frontRight, endWrong, readCard}
 use Rattle.card_reader.proofs.Shown.{accepted}
 use Rattle.stack.specs.Stack.{cardsIn, wholeStack}
 use Rattle.text_writer.specs.Decimal.{decimal}

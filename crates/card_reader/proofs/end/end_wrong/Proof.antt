@@ -1,8 +1,8 @@
--- `card_reader::access::end_wrong` meets its contract: its tests are the definition's. Assumes nothing.
+-- `card_reader::end::end_wrong` meets its contract: its tests are the definition's. Assumes nothing.
 use Rattle.card_reader.specs.Reading.{endWrong}
 use borrow.Author.Needs.{needs}
-use Rattle.card_reader.proofs.access.end_wrong.Statement.{statement}
-use Rattle.card_reader.proofs.access.end_wrong.Tie as tie
+use Rattle.card_reader.proofs.end.end_wrong.Statement.{statement}
+use Rattle.card_reader.proofs.end.end_wrong.Tie as tie
 
 shared-slice-read-writer : tie.Need-shared-slice-read-writer
 shared-slice-read-writer c = search needs

@@ -1,8 +1,8 @@
--- `card_reader::access::unknown` meets its contract: its tests are the definition's. Assumes nothing.
-use Rattle.card_reader.specs.Reading.{accessUnknown}
+-- `card_table::access::unknown` meets its contract: its tests are the definition's. Assumes nothing.
+use Rattle.card_table.specs.Access.{accessUnknown}
 use borrow.Author.Needs.{needs}
-use Rattle.card_reader.proofs.access.unknown.Statement.{statement}
-use Rattle.card_reader.proofs.access.unknown.Tie as tie
+use Rattle.card_table.proofs.access.unknown.Statement.{statement}
+use Rattle.card_table.proofs.access.unknown.Tie as tie
 
 table-holds-requires : tie.Need-table-holds-requires
 table-holds-requires c κs = search needs

@@ -1,12 +1,12 @@
--- `card_reader::access::shown` meets its contract, by its one test. Assumes nothing.
+-- `card_table::access::shown` meets its contract, by its one test. Assumes nothing.
 use mathlib.Core.Path.{refl, sym, ap₂, _∙_}
 use mathlib.Core.Bool.{Bool, _&&_}
 use lib.Dec.{leb}
 use Rattle.lists.proofs.Tests.{pass, stop}
-use Rattle.card_reader.specs.Reading.{accessOf}
+use Rattle.card_table.specs.Access.{accessOf}
 use borrow.Author.Needs.{needs}
-use Rattle.card_reader.proofs.access.shown.Statement.{statement}
-use Rattle.card_reader.proofs.access.shown.Tie as tie
+use Rattle.card_table.proofs.access.shown.Statement.{statement}
+use Rattle.card_table.proofs.access.shown.Tie as tie
 
 has-access-requires : tie.Need-has-access-requires
 has-access-requires c κs = search needs

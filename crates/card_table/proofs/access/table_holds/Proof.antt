@@ -1,7 +1,7 @@
--- `card_reader::access::table_holds` meets its contract: its tests are the definition's. Assumes nothing.
+-- `card_table::access::table_holds` meets its contract: its tests are the definition's. Assumes nothing.
 use borrow.Author.Needs.{needs}
-use Rattle.card_reader.proofs.access.table_holds.Statement.{statement}
-use Rattle.card_reader.proofs.access.table_holds.Tie as tie
+use Rattle.card_table.proofs.access.table_holds.Statement.{statement}
+use Rattle.card_table.proofs.access.table_holds.Tie as tie
 
 has-access-requires : tie.Need-has-access-requires
 has-access-requires c κs = search needs
