@@ -42,6 +42,7 @@ fn main() {
     let archive = archive().concat();
     store("samples/archive.stack", &archive);
     store("samples/archive.list", stack::list(&archive));
+    store("crates/stack_find_cases/stdin", &archive);
 }
 
 fn store(file: &str, bytes: impl AsRef<[u8]>) {
