@@ -74,10 +74,10 @@ turned c =
     let v = c .before .joined in
     let b = s .args .layout .bytes in
     elim (c .if1 .came) [
-      | inl t ↦ let h : l .i + 2 < s .args .n = t .0 .taken in
+      | inl t ↦ let h : l .i + 2 < s .args .n = omega (arith, t .0 .taken) in
           bytes-more (s .args .layout) (codes s) (s .args .out .now) _ _ (l .i) (v .result) 8 (omega arith) (v .ensures) (facts s .bytes-most)
           (omega (arith, s .pre .1 .1, eight-fit b (l .i) (s .args .n) (facts s .bytes-least) h)) (bytes-as _ _ (omega arith) refl (l .inv .1)) (t .5 ∙ t .2 .ensures)
-      | inr t ↦ let h : s .args .n ≤ l .i + 2 = t .0 .left in bytes-as _ _ (omega arith) (t .1) (l .inv .1)
+      | inr t ↦ let h : s .args .n ≤ l .i + 2 = omega (arith, t .0 .left) in bytes-as _ _ (omega arith) (t .1) (l .inv .1)
     ]
 
 loop-again : tie.Need-loop-again Inv-loop μ-loop
@@ -106,11 +106,11 @@ last-left c =
     let b = s .args .layout .bytes in
     let n = s .args .n in
     elim (c .if2 .came) [
-      | inl t ↦ let h : 2 ≤ n = t .0 .taken in
+      | inl t ↦ let h : 2 ≤ n = omega (arith, t .0 .taken) in
           let i : l .i ≡ n = omega arith in
           bytes-more (s .args .layout) (codes s) (s .args .out .now) _ _ (n - 2) (l .before) b (omega arith) (l .inv .3 (omega arith) ∙ ap (λ (k : ℕ). joined (s .args .layout) (codes s) (k - 2)) i) (omega arith)
           (omega (arith, s .pre .1 .1, point-fits b (n - 2) n (omega arith))) (bytes-as _ _ (omega arith) refl (l .inv .1)) (t .5 ∙ t .2 .ensures)
-      | inr t ↦ let h : n < 2 = t .0 .left in bytes-as _ _ (omega arith) (t .1) (l .inv .1)
+      | inr t ↦ let h : n < 2 = omega (arith, t .0 .left) in bytes-as _ _ (omega arith) (t .1) (l .inv .1)
     ]
 
 mul-store-low-2 : tie.Need-mul-store-low-2 Inv-loop μ-loop
