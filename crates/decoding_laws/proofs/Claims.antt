@@ -18,6 +18,7 @@ use Rattle.layout.specs.Layout.{validLayout}
 use Rattle.quantization.specs.declared.Quantized.the-variants.{Code}
 use Rattle.quantization.specs.Code.{codeOf, codeOr}
 use Rattle.quantization.specs.Answer.{scaleAt, quantized}
+use Rattle.quantization.proofs.Answers.{channel-known}
 use Rattle.line.specs.declared.LineAnswer.{LineAnswer}
 use Rattle.line.specs.declared.LineAnswer.the-variants.{Points}
 use Rattle.line.specs.Line.{codeAt, codesOf, packedOf, CodeLine}
@@ -30,7 +31,7 @@ use Rattle.decoding.proofs.One.{firstOf, shown, as-line}
 use Rattle.scanline_laws.proofs.Accepted.{fit, unpacking-accepted}
 use Rattle.scanline_laws.proofs.Claims.{packs-what-was-unpacked, unpacks-what-was-packed, unpacks-to-codes, packs-to-bytes, packs-unused-bits-as-zero, encodes-to-codes, counts-empty-lines as empty-lines}
 use Rattle.decoding_laws.specs.Claims.{clampedTo, DecodesLines, LeavesValues, RefusesOtherOutputs, DecodesEachCode, QuantizesWhatWasDecoded, EncodesEachValue, EncodesWhatWasDecoded, ReturnsWithinEnds, EveryCodeWithinEnds, AnyLineReturns, CountsEmptyLines, DecodesPointAsLine, RefusesPointAsLine}
-use Rattle.decoding_laws.proofs.Values.{clamped-same, number-coded, channel-known, length-values, codes-back, all-numbers, all-within, as-dequantized, values-of, three}
+use Rattle.decoding_laws.proofs.Values.{clamped-same, number-coded, length-values, codes-back, all-numbers, all-within, as-dequantized, values-of, three}
 
 pub decodes-lines : DecodesLines
 decodes-lines l n s p h = unpacking-accepted l n s (3 * n) p (omega arith) h
@@ -63,7 +64,7 @@ encodes-each-value l n vs ok numbers e =
           let at : getD (codesOf l s) k 0 ≡ codeAt l s k = getD-tabulate (3 * (length s / l .bytes)) (codeAt l s) k 0 (omega (arith, length-tabulate (3 * (length s / l .bytes)) (codeAt l s), unpacks-to-codes l n s bytes .points)) in
           let own : getD cs k 0 ≡ codeOr 0 (codeOf (scaleAt l (k % 3)) v) = getD-tabulate (length vs) (valueCode l vs) k 0 (omega arith) in
           let back = ap (λ (xs : List ℕ). getD xs k 0) (unpacks-what-was-packed l n cs line) in
-          pass _ (ap not (channel-known l k ok))
+          pass _ (ap not (channel-known l (k % 3) ok (omega arith)))
           (number-coded (scaleAt l (k % 3)) v (every-at (λ x. not (isNan x)) nan vs k numbers (omega arith))
           ∙ ap Code (sym own ∙ sym back ∙ at)),
     )

@@ -5,7 +5,7 @@ use mathlib.Core.List.{List, [], _∷_, map}
 use Prim.Native.Nat.{ℕ, zero, suc, _*_, _/_, _%_, _^_, _≤_, _<_}
 use native.Mathlib.Nat.{mod-lt, mul-comm, mul-div-cancel}
 use native.Mathlib.Omega.{arith}
-use borrow.Author.Tests.{lt-ltb, le-ltb, le-leb, leb-true}
+use borrow.Author.Tests.{le-ltb, le-leb, leb-true}
 use lib.Dec.{leb}
 use lib.Ieee.{Float, nan, inf, fin, isNan}
 use lib.ListN.{length, getD}
@@ -23,7 +23,8 @@ use Rattle.quantization.specs.declared.code.Coded.the-variants.{Code}
 use Rattle.quantization.specs.declared.Quantized.the-variants.{Code as Answered}
 use Rattle.quantization.specs.Value.{valueOf}
 use Rattle.quantization.specs.Code.{codeOf, codeOr}
-use Rattle.quantization.specs.Answer.{channelKnownAt, named, scaleAt, dequantized, orRefused}
+use Rattle.quantization.specs.Answer.{named, scaleAt, dequantized, orRefused}
+use Rattle.quantization.proofs.Answers.{channel-known}
 use Rattle.quantization.proofs.Scales.{ends-whole}
 use Rattle.quantization_laws.specs.Printed.{printedLow, printedHigh}
 use Rattle.quantization_laws.proofs.Printed.{ends-printed}
@@ -70,12 +71,6 @@ number-coded sc nan e = let z : _≡_ {A = ℕ} 0 1 = cc in absurd (omega arith)
 number-coded sc (inf false) e = refl
 number-coded sc (inf true) e = refl
 number-coded sc (fin s m x) e = refl
-
--- a valid layout has three channels
-pub channel-known : (l : Layout) (k : ℕ) → validLayout l ≡ true → channelKnownAt (l .model) (l .range) (l .depth) (k % 3) ≡ true
-channel-known l k ok =
-    let r = valid-says l ok in
-    ap₂ _&&_ (ap₂ _&&_ (ap₂ _&&_ (r .model) (r .range)) (r .depth)) (lt-ltb (k % 3) 3 (omega arith))
 
 module _ (l : Layout) (s : List ℕ) where
   -- a code of a packed line is one of the depth
@@ -124,7 +119,7 @@ module _ (l : Layout) (s : List ℕ) where
     pub as-dequantized : (k : ℕ) → k < length (valuesOf l s) → dequantized (l .model) (l .range) (l .depth) (k % 3) (codeAt l s k) ≡ named (kindOf (l .model) (k % 3)) (getD (valuesOf l s) k nan)
     unfolding dequantized
     as-dequantized k h =
-        pass _ (ap not (channel-known l k ok)) (pass _ (le-ltb (topOf (l .depth)) (codeAt l s k) (code-le k)) (ap (named (kindOf (l .model) (k % 3))) (sym (value-at k h))))
+        pass _ (ap not (channel-known l (k % 3) ok (omega arith))) (pass _ (le-ltb (topOf (l .depth)) (codeAt l s k) (code-le k)) (ap (named (kindOf (l .model) (k % 3))) (sym (value-at k h))))
 
 -- of n points
 pub values-of : (l : Layout) (n : ℕ) (s : List ℕ) → PackedLine l n s → length (valuesOf l s) ≡ 3 * n
