@@ -4,8 +4,6 @@ use mathlib.Core.List.{List, [], _∷_}
 use lib.IntN.{ℤ, pos, negℤ}
 use Rattle.card_reader.specs.declared.CardReading.{CardReading}
 use Rattle.card_reader.specs.declared.CardReading.the-variants.{Shown, Refused as NotShown}
-use Rattle.refusal.specs.declared.Written.{Written}
-use Rattle.refusal.specs.declared.Written.the-variants.{Done, Refused as NotWritten}
 use Rattle.stack.specs.declared.Found.{Found}
 use Rattle.stack.specs.declared.Found.the-variants.{At, Refused as NotFound}
 use Rattle.c_types.specs.Layouts.{layoutBytes}
@@ -15,20 +13,15 @@ abbrev pub shownNumber : CardReading → ℤ
 shownNumber (Shown f) = pos 0
 shownNumber (NotShown k) = negℤ (pos k)
 
--- the eight bytes behind the first pointer: the layout's, or what stood there before where the card is refused
+-- the eight bytes behind the first output's pointer: the layout's, or what stood there before where the card is refused
 abbrev pub shownLayout : CardReading → List ℕ → List ℕ
 shownLayout (Shown f) before = layoutBytes (f .layout)
 shownLayout (NotShown k) before = before
 
--- the four numbers behind the second: width, height, item and access, or what stood there before
+-- the four numbers behind the second's: width, height, item and access, or what stood there before
 abbrev pub shownFacts : CardReading → List ℕ → List ℕ
 shownFacts (Shown f) before = f .width ∷ f .height ∷ f .item ∷ f .access ∷ []
 shownFacts (NotShown k) before = before
-
--- 0 for a card that is written
-abbrev pub writtenNumber : Written → ℤ
-writtenNumber Done = pos 0
-writtenNumber (NotWritten k) = negℤ (pos k)
 
 -- the index of a card that is found
 abbrev pub foundNumber : Found → ℤ

@@ -4,8 +4,6 @@ use mathlib.Core.List.{List}
 use lib.IntN.{ℤ, pos, negℤ}
 use Rattle.descriptor_reader.specs.declared.DescriptorReading.{DescriptorReading}
 use Rattle.descriptor_reader.specs.declared.DescriptorReading.the-variants.{Accepted, Refused as NoLayout}
-use Rattle.refusal.specs.declared.Written.{Written}
-use Rattle.refusal.specs.declared.Written.the-variants.{Done, Refused as NotWritten}
 use Rattle.c_types.specs.Layouts.{layoutBytes}
 
 -- 0 for a layout
@@ -17,8 +15,3 @@ readNumber (NoLayout k) = negℤ (pos k)
 abbrev pub readLayout : DescriptorReading → List ℕ → List ℕ
 readLayout (Accepted l) before = layoutBytes l
 readLayout (NoLayout k) before = before
-
--- 0 for a descriptor written
-abbrev pub writtenNumber : Written → ℤ
-writtenNumber Done = pos 0
-writtenNumber (NotWritten k) = negℤ (pos k)

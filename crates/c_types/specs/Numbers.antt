@@ -1,10 +1,17 @@
--- A line's answer as C sees it: a number of 0 or more is the answer, and a refusal is minus its number (include/imurraqi.h). Assumes nothing.
+-- Answers as C sees them: a number of 0 or more is the answer, and a refusal is minus its number (include/imurraqi.h). Assumes nothing.
 use mathlib.Core.Bool.{Bool, true}
 use lib.Dec.{leb}
 use lib.IntN.{ℤ, pos, negℤ}
+use Rattle.refusal.specs.declared.Written.{Written}
+use Rattle.refusal.specs.declared.Written.the-variants.{Done, Refused as NotWritten}
 use Rattle.line.specs.declared.LineAnswer.{LineAnswer}
 use Rattle.line.specs.declared.LineAnswer.the-variants.{Points, Refused}
 use Rattle.line.specs.Answer.{mostPoints}
+
+-- 0 for what is written
+abbrev pub writtenNumber : Written → ℤ
+writtenNumber Done = pos 0
+writtenNumber (NotWritten k) = negℤ (pos k)
 
 -- the count of points
 abbrev pub lineNumber : LineAnswer → ℤ

@@ -55,7 +55,7 @@ ShowsValidFacts = (b : List ℕ) (e : ℕ) (f : Facts) → readCard b e ≡ Show
 abbrev pub NeverMoreOpen : Type 0
 NeverMoreOpen = (b : List ℕ) (e : ℕ) (f : Facts) → readCard b e ≡ Shown f → f .access ≤ getD b 24 0
 
--- it is closed, or byte 24 as it stands; that only where the reader and the writer have access (the caution on every card: silent is closed)
+-- it is closed, or byte 24 as it stands; that only where the reader and the writer have access (a card that is silent about access is closed)
 abbrev pub ClosedOrAsItStands : Type 0
 ClosedOrAsItStands =
     (b : List ℕ) (e : ℕ) (f : Facts) → readCard b e ≡ Shown f

@@ -19,7 +19,8 @@ impl Card {
     // The largest width, and so the largest height.
     pub const LARGEST_WIDTH: u16 = 4096;
 
-    // The card of the facts, written at an edition: the table. (Of any facts and at any edition: `write` asks first whether they are valid.)
+    // The card of the facts, written at an edition: the table. (Of any facts and at any edition: `write` asks first whether
+    // they are valid.)
     pub fn of(edition: u8, facts: Facts) -> Card
         ensures answer { λ r. ⌜ r .bytes ≡ cardBytes edition facts ⌝ }
     {

@@ -1,4 +1,4 @@
--- Demand 3 in the customer's words, which are of editions 1 and 2; specs/Meaning.antt says the same of all editions that there are. proofs/Printed.antt proves each claim. Assumes nothing.
+-- Those sentences of demand 3 that name editions, in the customer's words, which are of editions 1 and 2; specs/Meaning.antt has all of it over all editions that there are. proofs/Printed.antt proves each claim. Assumes nothing.
 use Prim.Native.Nat.{ℕ}
 use mathlib.Core.Bool.{Bool, true, false, cond, _&&_, _||_}
 use mathlib.Core.Path.{_≡_}

@@ -1,11 +1,13 @@
 -- What the program that lists a stack did, and what its memory holds afterwards (document 01, "The stack list"). Assumes nothing.
-use Prim.Native.Nat.{ℕ, _≤_}
+use Prim.Native.Nat.{ℕ, _+_, _*_, _≤_}
 use mathlib.Core.Bool.{Bool, true, false, _&&_}
 use mathlib.Core.Path.{_≡_}
 use mathlib.Core.List.{List, _++_}
 use lib.Dec.{eqb, leb}
 use lib.ListN.{length, take, drop}
 use Rattle.refusal.specs.Refusal.{wrongLineOrOutput}
+use Rattle.card_table.specs.Table.{cardSize}
+use Rattle.stack.specs.Stack.{stackLimit}
 use Rattle.listing.specs.List.{listText}
 use Rattle.listing.specs.Text.{longestList}
 use Rattle.listing_program.specs.declared.Ran.{Ran}
@@ -13,7 +15,7 @@ use Rattle.listing_program.specs.declared.Ran.the-variants.{Listed, NotR
 
 -- one byte more than the largest stack has
 abbrev pub mostRead : ℕ
-mostRead = 32769
+mostRead = cardSize * stackLimit + 1
 
 -- a buffer of that length, and a text that can hold every list
 abbrev pub fits : (buffer text : ℕ) → Bool

@@ -1,4 +1,4 @@
-// The numbers of the refusals (document 01, "Numbers on the refusal slip"). specs/Refusal.antt has the same rows.
+// What writing answers, and the numbers of all refusals (document 01, "Numbers on the refusal slip"). specs/Refusal.antt has the same rows.
 
 // What writing into an output answers: done, or the refusal's number.
 pub enum Written {

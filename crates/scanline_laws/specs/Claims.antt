@@ -32,16 +32,16 @@ UnpacksToCodes = (l : Layout) (n : ℕ) (s : List ℕ) → PackedLine l n s → 
 abbrev pub PacksToBytes : Type 0
 PacksToBytes = (l : Layout) (n : ℕ) (cs : List ℕ) → CodeLine l n cs → PackedLine l n (packedOf l cs)
 
--- whatever the codes within the depth, the unused bits of a packed line are zero
-abbrev pub PacksUnusedBitsAsZero : Type 0
-PacksUnusedBitsAsZero = (l : Layout) (n : ℕ) (cs : List ℕ) → CodeLine l n cs → cleared l (packedOf l cs) ≡ packedOf l cs
-
 -- and so it is accepted, of up to 4,096 points, into an output as long as the line that it came from
 abbrev pub AcceptsWhatWasUnpacked : Type 0
 AcceptsWhatWasUnpacked = (l : Layout) (n : ℕ) (s : List ℕ) → PackedLine l n s → n ≤ mostPoints → packAnswer l (codesOf l s) (length s) ≡ Points n
 
 abbrev pub AcceptsWhatWasPacked : Type 0
 AcceptsWhatWasPacked = (l : Layout) (n : ℕ) (cs : List ℕ) → CodeLine l n cs → n ≤ mostPoints → unpackAnswer l (length (packedOf l cs)) (length cs) ≡ Points n
+
+-- whatever the codes within the depth, the unused bits of a packed line are zero
+abbrev pub PacksUnusedBitsAsZero : Type 0
+PacksUnusedBitsAsZero = (l : Layout) (n : ℕ) (cs : List ℕ) → CodeLine l n cs → cleared l (packedOf l cs) ≡ packedOf l cs
 
 -- the codes of values are codes of the depth, so that all this holds of an encoded line too
 abbrev pub EncodesToCodes : Type 0
