@@ -13,9 +13,8 @@ program = target/bin/stack_list
 binding = share/imurraqi/rust
 sources := crates.txt $(shell find crates -name '*.rt' -o -name '*.antt')
 
-# The C interface by subject, and what its crates rest on.
+# The C interface by subject.
 subjects = c_values c_descriptors c_lines c_colors c_cards c_history
-below := $(sort $(shell sed -n 's/^c_[a-z]*://p' crates.txt))
 
 # In a shell: PREFIX with its whole path, and the directory that is written to.
 places = set -e; prefix=$$(realpath -ms -- '$(PREFIX)'); to='$(DESTDIR)'$$prefix
@@ -23,11 +22,9 @@ places = set -e; prefix=$$(realpath -ms -- '$(PREFIX)'); to='$(DESTDIR)'$$prefix
 all: $(library) $(program)
 
 # A static library of each subject, and their objects side by side in one. In each all but the functions for C are local, so
-# that no two objects share a name, and a program gets only the objects of the subjects that it uses. Once all that they rest
-# on is proved, the subjects need nothing of each other and are proved at the same time.
+# that no two objects share a name, and a program gets only the objects of the subjects that it uses.
 $(library): $(sources)
-	rt check $(below)
-	printf '%s\n' $(subjects) | xargs -P "$$(nproc)" -I SUBJECT sh -c 'rt staticlib SUBJECT || exit 255'
+	set -e; for subject in $(subjects); do rt staticlib $$subject; done
 	rm -f $@
 	{ echo create $@; printf 'addlib target/staticlib/lib%s.a\n' $(subjects); echo save; echo end; } | ar -M
 
