@@ -7,9 +7,12 @@ ghost use lib.ListN.{length};
 ghost use lib.Ieee.{isNan};
 ghost use Rattle.layout.specs.Layout.{validLayout};
 ghost use Rattle.quantization.specs.Code.{codeOf, codeOr};
+ghost use Rattle.quantization.specs.inner.Floats.{Fine};
 ghost use Rattle.quantization.specs.inner.Fitted.{Fitted};
 ghost use Rattle.line.specs.Line.{joined as joinedOf, packedOf};
+ghost use Rattle.lists.specs.Lists.{tabulate};
 ghost use Rattle.packing.specs.Encode.{quantizedOf, allNumbers};
+ghost use Rattle.packing.specs.inner.Run.{stored};
 use crate::join::join;
 use crate::store::store_low;
 use crate::store::store8;
@@ -32,10 +35,10 @@ pub(crate) fn all_numbers(values: &[f32]) -> bool
 
 // The code of a number.
 fn code_of(scale: Scale, value: f32) -> u16
-    requires { ⌜ T (not (isNan value)) ⌝ }
+    requires { ⌜ Fine scale × T (not (isNan value)) ⌝ }
     ensures { λ r. ⌜ r ≡ codeOr 0 (codeOf scale value) ⌝ }
 {
-    scale.code_of_bits(f32::to_bits(value))
+    scale.code(value as f64)
 }
 
 // The number of point i of a line of values.
@@ -49,30 +52,47 @@ fn joined(layout: Layout, scales: Scales, values: &[f32], i: usize) -> u64
     join(layout, a, b, c)
 }
 
-// The bytes of a line of n points. All but the last two are stored eight bytes at a time; the last two wait until the loop
-// is over, so that it has one call of `joined`, which the compiler then puts in its place.
+// The numbers of eight points, all worked out before any is stored, so that the compiler can do it side by side.
+fn numbers(layout: Layout, scales: Scales, values: &[f32], i: usize) -> [u64; 8]
+    requires { ⌜ (validLayout layout ≡ true) × Fitted layout scales × (allNumbers (now values) ≡ true) × (3 * i + 24 ≤ length (now values)) ⌝ }
+    ensures { λ r. ⌜ r ≡ tabulate 8 (λ k. joinedOf layout (quantizedOf layout (now (values .entry))) (i + k)) ⌝ }
+{
+    let mut v = [0u64; 8];
+    let mut j = 0;
+    while j < 8 {
+        v[j] = joined(layout, scales, values, i + j);
+        j += 1;
+    }
+    v
+}
+
+// Stores them, eight bytes each.
+fn store_numbers(size: usize, v: [u64; 8], out: &mut [u8], i: usize)
+    requires { ⌜ (i + 7 ≤ length (now out)) × (size * (i + 7) + 8 ≤ length (now out)) ⌝ }
+    ensures { λ _. ⌜ now (out .exit) ≡ stored size v i 8 (now (out .entry)) ⌝ }
+{
+    let mut j = 0;
+    while j < 8 {
+        store8(out, size * (i + j), v[j]);
+        j += 1;
+    }
+}
+
+// The bytes of a line of n points, eight points a turn. The last few are stored one by one, no byte beyond the line.
 pub(crate) fn points(layout: Layout, scales: Scales, values: &[f32], out: &mut [u8], n: usize)
     requires { ⌜ (validLayout layout ≡ true) × Fitted layout scales × (allNumbers (now values) ≡ true) ⌝ }
     requires { ⌜ (length (now values) ≡ 3 * n) × (length (now out) ≡ layout .bytes * n) ⌝ }
     ensures { λ _. ⌜ now (out .exit) ≡ packedOf layout (quantizedOf layout (now (values .entry))) ⌝ }
 {
     let size = layout.bytes as usize;
-    let mut before = 0;
-    let mut last = 0;
     let mut i = 0;
+    while i + 9 < n {
+        let v = numbers(layout, scales, values, i);
+        store_numbers(size, v, out, i);
+        i += 8;
+    }
     while i < n {
-        let v = joined(layout, scales, values, i);
-        if i + 2 < n {
-            store8(out, size * i, v);
-        }
-        before = last;
-        last = v;
+        store_low(out, size * i, size, joined(layout, scales, values, i));
         i += 1;
-    }
-    if 2 <= n {
-        store_low(out, size * (n - 2), size, before);
-    }
-    if 1 <= n {
-        store_low(out, size * (n - 1), size, last);
     }
 }

@@ -6,6 +6,7 @@ use native.Mathlib.Nat.{add-zero}
 use native.Mathlib.Omega.{arith}
 use lib.Dec.{lit<}
 use lib.ListN.{getD}
+use Rattle.quantization.proofs.Scales.{fine-at}
 use Rattle.packing.specs.Encode.{quantizedOf}
 use Rattle.packing.proofs.Encodes.{number-at, placed, joined-by}
 use Rattle.packing.proofs.encode.joined.Statement.{statement}
@@ -37,7 +38,7 @@ shared-slice-read-code-of c = search needs
 code-of-requires : tie.Need-code-of-requires
 code-of-requires c κs =
     let s = c .before .before in
-    number-at (s .args .values .now) (3 * s .args .i) (s .pre .2) (omega arith)
+    (fine-at (s .args .layout) 0 _ (s .pre .0) (s .pre .1 .fitted0), number-at (s .args .values .now) (3 * s .args .i) (s .pre .2) (omega arith))
 
 mul-code-of-3 : tie.Need-mul-code-of-3
 mul-code-of-3 c = search needs
@@ -54,7 +55,7 @@ shared-slice-read-code-of-2 c = search needs
 code-of-requires-2 : tie.Need-code-of-requires-2
 code-of-requires-2 c κs =
     let s = c .before .before .before .before in
-    number-at (s .args .values .now) (3 * s .args .i + 1) (s .pre .2) (omega arith)
+    (fine-at (s .args .layout) 1 _ (s .pre .0) (s .pre .1 .fitted1), number-at (s .args .values .now) (3 * s .args .i + 1) (s .pre .2) (omega arith))
 
 mul-code-of-5 : tie.Need-mul-code-of-5
 mul-code-of-5 c = search needs
@@ -71,7 +72,7 @@ shared-slice-read-code-of-3 c = search needs
 code-of-requires-3 : tie.Need-code-of-requires-3
 code-of-requires-3 c κs =
     let s = c .before .before .before .before .before .before in
-    number-at (s .args .values .now) (3 * s .args .i + 2) (s .pre .2) (omega arith)
+    (fine-at (s .args .layout) 2 _ (s .pre .0) (s .pre .1 .fitted2), number-at (s .args .values .now) (3 * s .args .i + 2) (s .pre .2) (omega arith))
 
 join-requires : tie.Need-join-requires
 join-requires c κs = (s c .pre .0, (code0 c .0, code1 c .0, code2 c .0))
