@@ -19,8 +19,8 @@ use Rattle.layout.proofs.Facts.{Valid, valid-says}
 use Rattle.line.specs.Point.{inPlace}
 use Rattle.line.specs.Line.{joined, byteAt}
 use Rattle.line.proofs.Joins.{machine-sum}
-use Rattle.packing.specs.inner.Store.{joinedBits, stored, roomFor, storedLast, storedEight, storedOne}
-use Rattle.packing.proofs.Rooms.{Room, room-says, has-room, eight-fit, point-fits}
+use Rattle.packing.specs.inner.Store.{joinedBits, stored, pointsFit, storedLast, storedEight, storedOne}
+use Rattle.packing.proofs.Fit.{PointsFit, fit-says, fit-is, eight-fit, point-fits}
 use Rattle.packing.proofs.Bytes.{bytes-more, bytes-as}
 
 module _ (size : ℕ) (v : List ℕ) (i : ℕ) (xs : List ℕ) where
@@ -53,7 +53,7 @@ module _ (l : Layout) (ok : validLayout l ≡ true) (cs out : List ℕ) (n : ℕ
   facts : Valid l
   facts = valid-says l ok
 
-  has : (i count : ℕ) (xs : List ℕ) → i + count ≤ n → length xs ≡ length out → Room (l .bytes) i count (length xs)
+  has : (i count : ℕ) (xs : List ℕ) → i + count ≤ n → length xs ≡ length out → PointsFit (l .bytes) i count (length xs)
   has i count xs h e =
       record { least = facts .bytes-least; most = facts .bytes-most; first = omega arith; fits = omega (arith, e, long, mul-le-mul-left {m = i + count} {n = n} (l .bytes) h) }
 
@@ -63,16 +63,16 @@ module _ (l : Layout) (ok : validLayout l ≡ true) (cs out : List ℕ) (n : ℕ
       let r = has i 8 xs h (f .long) in
       let fits : (j : ℕ) → j < 8 → l .bytes * (i + j) + l .bytes ≤ length out = λ j p. rw (sym (f .long)) (point-fits (l .bytes) i 8 (length xs) r j p) in
       let b = l .bytes in
-      bytes-as l cs refl (stop _ (has-room b i 8 (length xs) r))
+      bytes-as l cs refl (stop _ (fit-is b i 8 (length xs) r))
       (bytes-more l cs out _ _ (i + 7) (getD v 7 0) b (omega arith) (g 7 (lit< tt)) (omega arith) (fits 7 (lit< tt))
       (bytes-more l cs out (stored b v i 6 xs) (written (stored b v i 6 xs) (b * (i + 6)) (byteOf (getD v 6 0)) b) (i + 6) (getD v 6 0) b (omega arith) (g 6 (lit< tt)) (omega arith) (fits 6 (lit< tt))
       (run-filled l cs v i out xs (facts .bytes-most) 6 (λ j p. (g j (omega arith), rw (sym (f .long)) (eight-fit b i 8 (length xs) r j (omega arith)))) f) refl) refl)
 
   pub eight-fills : (v xs : List ℕ) (i : ℕ) → i + 8 ≤ n → ((j : ℕ) → j < 8 → getD v j 0 ≡ joined l cs (i + j)) → Upto i xs → Upto (i + 8) (storedEight (l .bytes) v i xs)
   unfolding storedEight
-  eight-fills v xs i h g f = go (roomFor (l .bytes) i 10 (length xs)) (room-says (l .bytes) i 10 (length xs))
+  eight-fills v xs i h g f = go (pointsFit (l .bytes) i 10 (length xs)) (fit-says (l .bytes) i 10 (length xs))
     where
-      go : (b : Bool) → (b ≡ true → Room (l .bytes) i 10 (length xs)) → Upto (i + 8) (cond b (stored (l .bytes) v i 8 xs) (storedLast (l .bytes) v i xs))
+      go : (b : Bool) → (b ≡ true → PointsFit (l .bytes) i 10 (length xs)) → Upto (i + 8) (cond b (stored (l .bytes) v i 8 xs) (storedLast (l .bytes) v i xs))
       go true r = run-filled l cs v i out xs (facts .bytes-most) 8 (λ j p. (g j p, rw (sym (f .long)) (eight-fit (l .bytes) i 10 (length xs) (r refl) j (omega arith)))) f
       go false r = last-fills v xs i h g f
 
@@ -80,7 +80,7 @@ module _ (l : Layout) (ok : validLayout l ≡ true) (cs out : List ℕ) (n : ℕ
   unfolding storedOne
   one-fills v xs i h g f =
       let r = has i 1 xs (omega arith) (f .long) in
-      bytes-more l cs out xs _ i v (l .bytes) refl g (omega arith) (rw (sym (f .long)) (rw add-zero at (point-fits (l .bytes) i 1 (length xs) r 0 (lit< tt)))) f (stop _ (has-room (l .bytes) i 1 (length xs) r))
+      bytes-more l cs out xs _ i v (l .bytes) refl g (omega arith) (rw (sym (f .long)) (rw add-zero at (point-fits (l .bytes) i 1 (length xs) r 0 (lit< tt)))) f (stop _ (fit-is (l .bytes) i 1 (length xs) r))
 
   -- fewer of them
   pub fewer : (xs : List ℕ) {i j : ℕ} → j ≤ i → Upto i xs → Upto j xs

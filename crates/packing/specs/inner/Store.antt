@@ -22,22 +22,22 @@ unfoldable pub stored : ℕ → List ℕ → ℕ → ℕ → List ℕ → List �
 stored size v i zero xs = xs
 stored size v i (suc k) xs = written (stored size v i k xs) (size * (i + k)) (byteOf (getD v k 0)) 8
 
--- so many points, from point i on, have room in so many bytes
-abbrev pub roomFor : ℕ → ℕ → ℕ → ℕ → Bool
-roomFor size i count bytes = leb 3 size && leb size 8 && leb i 4096 && leb (size * (i + count)) bytes
+-- so many points, from point i on, fit in so many bytes
+abbrev pub pointsFit : ℕ → ℕ → ℕ → ℕ → Bool
+pointsFit size i count bytes = leb 3 size && leb size 8 && leb i 4096 && leb (size * (i + count)) bytes
 
 -- of the last eight: two of them in their own bytes alone
 unfoldable pub storedLast : ℕ → List ℕ → ℕ → List ℕ → List ℕ
 unfolding stored
 storedLast size v i xs =
-    cond (roomFor size i 8 (length xs))
+    cond (pointsFit size i 8 (length xs))
     (written (written (stored size v i 6 xs) (size * (i + 6)) (byteOf (getD v 6 0)) size) (size * (i + 7)) (byteOf (getD v 7 0)) size) xs
 
 -- of eight, which two more may follow
 unfoldable pub storedEight : ℕ → List ℕ → ℕ → List ℕ → List ℕ
 unfolding stored storedLast
-storedEight size v i xs = cond (roomFor size i 10 (length xs)) (stored size v i 8 xs) (storedLast size v i xs)
+storedEight size v i xs = cond (pointsFit size i 10 (length xs)) (stored size v i 8 xs) (storedLast size v i xs)
 
 -- of one
 unfoldable pub storedOne : ℕ → ℕ → ℕ → List ℕ → List ℕ
-storedOne size v i xs = cond (roomFor size i 1 (length xs)) (written xs (size * i) (byteOf v) size) xs
+storedOne size v i xs = cond (pointsFit size i 1 (length xs)) (written xs (size * i) (byteOf v) size) xs

@@ -11,18 +11,18 @@ use Rattle.lists.specs.Bytes.{byteOf}
 use Rattle.lists.specs.inner.Stores.{written}
 use Rattle.lists.proofs.Lists.{length-written}
 use Rattle.lists.proofs.Tests.{pass, stop}
-use Rattle.packing.specs.inner.Store.{roomFor, stored, storedLast}
-use Rattle.packing.proofs.Rooms.{Room, room-says, eight-fit, point-fits}
+use Rattle.packing.specs.inner.Store.{pointsFit, stored, storedLast}
+use Rattle.packing.proofs.Fit.{PointsFit, fit-says, eight-fit, point-fits}
 use Rattle.packing.proofs.Fills.{length-stored}
 use Rattle.packing.proofs.runs.store_last.Statement.{statement}
 use Rattle.packing.proofs.runs.store_last.Tie as tie
 
 -- what the test says, where it passes
-has : (c : tie.Then1) → let a = c .before .before .before .args in roomFor (a .size) (a .i) 8 (length (a .out .now)) ≡ true
-has c = sym (c .before .room .ensures) ∙ c .if1 .taken
+has : (c : tie.Then1) → let a = c .before .before .before .args in pointsFit (a .size) (a .i) 8 (length (a .out .now)) ≡ true
+has c = sym (c .before .points-fit .ensures) ∙ c .if1 .taken
 
-says : (c : tie.Then1) → let a = c .before .before .before .args in Room (a .size) (a .i) 8 (length (a .out .now))
-says c = let a = c .before .before .before .args in room-says (a .size) (a .i) 8 (length (a .out .now)) (has c)
+says : (c : tie.Then1) → let a = c .before .before .before .args in PointsFit (a .size) (a .i) 8 (length (a .out .now))
+says c = let a = c .before .before .before .args in fit-says (a .size) (a .i) 8 (length (a .out .now)) (has c)
 
 own : (c : tie.Then1) (k : ℕ) → k < 8 → let a = c .before .before .before .args in a .size * (a .i + k) + a .size ≤ length (a .out .now)
 own c k h = let a = c .before .before .before .args in point-fits (a .size) (a .i) 8 (length (a .out .now)) (says c) k h
@@ -34,8 +34,8 @@ length-all c = let a = c .before .before .before .before .before .args in ap len
 length-low : (c : tie.After-store-low) → length (c .store-low .last .0) ≡ length (c .before .before .before .before .before .before .before .before .before .args .out .now)
 length-low c = ap length (c .store-low .ensures) ∙ length-written _ _ _ _ ∙ length-all (c .before .before .before .before)
 
-room-requires : tie.Need-room-requires
-room-requires c κs = search needs
+points-fit-requires : tie.Need-points-fit-requires
+points-fit-requires c κs = search needs
 
 store-all-requires : tie.Need-store-all-requires
 store-all-requires c κs =
@@ -85,13 +85,13 @@ returns c =
 
 returns-2 : tie.Need-returns-2
 unfolding storedLast
-returns-2 c = sym (pass _ (sym (c .before .room .ensures) ∙ c .if1 .left) refl)
+returns-2 c = sym (pass _ (sym (c .before .points-fit .ensures) ∙ c .if1 .left) refl)
 
 pub store-last-spec : {M : Type 1} → statement M
 store-last-spec =
     tie.close
     (tie.spec
-    room-requires
+    points-fit-requires
     store-all-requires
     add-store-low
     mul-store-low

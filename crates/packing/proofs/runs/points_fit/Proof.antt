@@ -1,4 +1,4 @@
--- `packing::room` meets its contract, test by test. Assumes nothing.
+-- `packing::points_fit` meets its contract, test by test. Assumes nothing.
 use mathlib.Core.Path.{_≡_, sym, ap, _∙_}
 use mathlib.Core.Bool.{Bool, true, _&&_}
 use Prim.Native.Nat.{_+_, _*_}
@@ -7,8 +7,8 @@ use native.Mathlib.Omega.{arith}
 use borrow.Author.Tests.{not-true, not-false, leb-true}
 use lib.Dec.{leb}
 use Rattle.lists.proofs.Tests.{and3}
-use Rattle.packing.proofs.runs.room.Statement.{statement}
-use Rattle.packing.proofs.runs.room.Tie as tie
+use Rattle.packing.proofs.runs.points_fit.Statement.{statement}
+use Rattle.packing.proofs.runs.points_fit.Tie as tie
 
 -- what the first tests say, where they pass
 small : (c : tie.Else1) → let a = c .before .args in leb 3 (a .size) && leb (a .size) 8 && leb (a .i) 4096 ≡ true
@@ -37,5 +37,5 @@ returns-2 c =
     let a = c .before .args in
     sym (ap (λ (t : Bool). t && leb (a .size * (a .i + a .count)) (a .bytes)) (small c))
 
-pub room-spec : {M : Type 1} → statement M
-room-spec = tie.close (tie.spec returns add-result mul-result returns-2)
+pub points-fit-spec : {M : Type 1} → statement M
+points-fit-spec = tie.close (tie.spec returns add-result mul-result returns-2)
