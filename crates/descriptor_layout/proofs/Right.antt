@@ -10,7 +10,7 @@ use Rattle.layout.specs.Layout.{depthKnown, bytesKnown}
 use Rattle.layout.proofs.Depths.{known-between}
 use Rattle.descriptor_samples.specs.declared.samples.Samples.{Samples}
 use Rattle.descriptor_samples.specs.Samples.{eachOnce, inOrder, samplesRight}
-use Rattle.descriptor_reader.specs.Sample.{offsetIn}
+use Rattle.descriptor_layout.specs.Told.{offsetIn}
 
 -- the facts behind the tests
 pub record Right (bytes : ℕ) (s : Samples) : Type 0 where

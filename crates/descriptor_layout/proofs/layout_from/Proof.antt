@@ -1,11 +1,11 @@
--- `descriptor_reader::sample::layout_from` meets its contract: right samples have offsets that are bytes. Assumes nothing.
-use Rattle.descriptor_reader.specs.Reading.{layoutFrom}
+-- `descriptor_layout::layout_from` meets its contract: right samples have offsets that are bytes. Assumes nothing.
+use Rattle.descriptor_layout.specs.Told.{layoutFrom}
 use Prim.Native.Nat.{ℕ, _<_}
 use mathlib.Core.Path.{sym, subst}
-use Rattle.descriptor_reader.proofs.Right.{length-lt, offset-lt}
+use Rattle.descriptor_layout.proofs.Right.{length-lt, offset-lt}
 use borrow.Author.Needs.{needs}
-use Rattle.descriptor_reader.proofs.sample.layout_from.Statement.{statement}
-use Rattle.descriptor_reader.proofs.sample.layout_from.Tie as tie
+use Rattle.descriptor_layout.proofs.layout_from.Statement.{statement}
+use Rattle.descriptor_layout.proofs.layout_from.Tie as tie
 
 add-t6 : tie.Need-add-t6
 add-t6 c = record { fits = length-lt (c .before .args .bytes) (c .before .args .samples) (c .before .pre .1) }

@@ -1,10 +1,10 @@
--- `descriptor_reader::sample::offset_in` meets its contract, arm by arm. Assumes nothing.
-use Rattle.descriptor_reader.specs.Sample.{offsetIn}
+-- `descriptor_layout::offset_in` meets its contract, arm by arm. Assumes nothing.
+use Rattle.descriptor_layout.specs.Told.{offsetIn}
 use borrow.Author.Tests.{eq-eqb, ne-eqb}
 use mathlib.Core.Path.{refl, sym}
 use Rattle.lists.proofs.Tests.{pass, stop}
-use Rattle.descriptor_reader.proofs.sample.offset_in.Statement.{statement}
-use Rattle.descriptor_reader.proofs.sample.offset_in.Tie as tie
+use Rattle.descriptor_layout.proofs.offset_in.Statement.{statement}
+use Rattle.descriptor_layout.proofs.offset_in.Tie as tie
 
 returns : tie.Need-returns
 unfolding offsetIn
