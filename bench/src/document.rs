@@ -53,10 +53,10 @@ of at a time with SSE2 alone. Encoding and conversion do eight points a turn: al
 *Encoding* is one product and one sum in f64: t = v span + (base + 4096.5). v is an f32 of 24 digits and span has 13 at most, so
 that the product is exact. Two comparisons bring t to low + 4096 .. high + 4096. From 4096 to 8192 an f64 has 40 digits below the
 binary point, and the code is bits 40 to 51 of its pattern: no cast, no division. The sum is the only step that can round. Say
-that v is a whole number of 2^-k. If k is 39 or less, t is a whole number of 2^-40 and is held exactly. If k is more, v is less
-than 2^24 2^-40, and the product less than 2^13 2^-16 = 1/8; base + 4096.5 lies halfway between two whole numbers, so that t lies
-within 1/8 of a half, and rounding it by 2^-41 leads to no other whole number. The code is the whole part of t, so it is right
-either way, and infinities are brought to the ends.
+that v is m 2^-k, with m below 2^24. If k is 40 or less, t is a multiple of 2^-40 and is held exactly. If k is more, v is below
+2^24 2^-41, and the product below 2^12 2^-17 = 1/32; base + 4096.5 lies halfway between two whole numbers, so that t lies
+within 1/32 of there, and rounding it by 2^-41 at most leads to no other whole number. The code is the whole part of t, so it is
+right either way, and infinities are brought to the ends.
 
 *Conversion* is one division in f64 of whole numbers: (a x + b y + c z + d) / e, where x, y, z are codes of 12 bits at most, and d has
 half a divisor for the rounding and 4096 e. All products and sums stay below 2^53, so that they are exact, and e is at most
