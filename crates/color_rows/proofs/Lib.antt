@@ -1,0 +1,4 @@
+pub mod Sizes
+pub mod Table
+pub mod Known
+mod Ranges
