@@ -5,9 +5,7 @@ use Prim.Native.Nat.{ℕ, _+_, _*_, _/_, _%_, _≤_, _<_}
 use native.Mathlib.Omega.{arith}
 use lib.ListN.{length, getD}
 use Rattle.lists.specs.Lists.{tabulate}
-use Rattle.lists.specs.inner.Stores.{written}
-use Rattle.lists.proofs.Lists.{tabulate-same}
-use Rattle.lists.proofs.Filled.{Filled, filled-more, filled-all}
+use Rattle.lists.proofs.Filled.{Filled, filled-all}
 use Rattle.color_equations.specs.Line.{convertedAt, convertedOf}
 
 -- the three codes of point i, converted
@@ -23,20 +21,9 @@ module _ (f : ℕ → ℕ → ℕ → ℕ → ℕ) (cs : List ℕ) where
       let r : j ≡ (3 * i + j) % 3 = omega arith in
       ap₂ (pointAt f cs) q r
 
-  -- one turn of a loop
-  pub converted-more : (out xs ys : List ℕ) (i : ℕ) → 3 * i + 3 ≤ length out → Filled out (convertedAt f cs) (3 * i) xs → ys ≡ written xs (3 * i) (pointAt f cs i) 3
-      → Filled out (convertedAt f cs) (3 * (i + 1)) ys
-  converted-more out xs ys i fits h e = filled-more (pointAt f cs i) 3 (omega arith) (omega arith) (converted-at i) h e
-
   -- all turns
   pub converted-all : (out xs : List ℕ) (i n : ℕ) → length cs ≡ 3 * n → length out ≡ 3 * n → n ≤ i → i ≤ n → Filled out (convertedAt f cs) (3 * i) xs → xs ≡ convertedOf f cs
   unfolding convertedOf
   converted-all out xs i n es eo lo hi h =
       let e : 3 * i ≡ length cs = omega arith in
       filled-all 0 (omega arith) h ∙ ap (λ (m : ℕ). tabulate m (convertedAt f cs)) e
-
--- what converts every point alike converts every line alike
-pub converted-same : (f g : ℕ → ℕ → ℕ → ℕ → ℕ) (cs : List ℕ) → ((x y z j : ℕ) → f x y z j ≡ g x y z j) → convertedOf f cs ≡ convertedOf g cs
-unfolding convertedOf convertedAt
-converted-same f g cs h =
-    tabulate-same 0 (length cs) (convertedAt f cs) (convertedAt g cs) (λ k l. h (getD cs (3 * (k / 3)) 0) (getD cs (3 * (k / 3) + 1) 0) (getD cs (3 * (k / 3) + 2) 0) (k % 3))
