@@ -1,7 +1,7 @@
 -- Points of three codes in one number, stored four codes at a time. Assumes nothing.
 use mathlib.Core.Path.{_≡_, refl, sym, ap, _∙_, subst}
 use mathlib.Core.List.{List}
-use Prim.Native.Nat.{ℕ, zero, suc, _+_, _-_, _*_, _/_, _%_, _^_, _≤_, _<_}
+use Prim.Native.Nat.{ℕ, zero, suc, _+_, _*_, _/_, _%_, _^_, _≤_, _<_}
 use native.Mathlib.Nat.{add-zero, div-one}
 use native.Mathlib.Numerals.{add-one}
 use native.Mathlib.Omega.{arith}
@@ -14,12 +14,12 @@ use Rattle.lists.specs.inner.Stores.{written}
 use Rattle.lists.proofs.Lists.{getD-tabulate, length-written}
 use Rattle.lists.proofs.Tests.{and-left, and-right}
 use Rattle.lists.proofs.Filled.{Filled, filled-wide}
-use Rattle.color_equations.specs.Line.{convertedAt, convertedOf}
+use Rattle.color_equations.specs.Line.{convertedAt}
 use Rattle.floats.specs.Floor.{wholeOf, wholeWithin}
 use Rattle.color_line.specs.declared.row.FloatRow.{FloatRow}
 use Rattle.color_line.specs.declared.row.FloatRows.{FloatRows}
 use Rattle.color_line.specs.inner.Rows.{rowCode, rowsCode, alike, numberOf, pointOf, shortOf, storedOf}
-use Rattle.color_line.proofs.Lines.{pointAt, converted-at, converted-all}
+use Rattle.color_line.proofs.Lines.{pointAt, converted-at}
 
 module _ (v : List ℕ) (i : ℕ) (xs : List ℕ) where
   pub length-stored : (k : ℕ) → length (storedOf v i k xs) ≡ length xs
@@ -49,7 +49,7 @@ module _ (f : ℕ → ℕ → ℕ → ℕ → ℕ) (small : (x y z j : ℕ) → 
       → ys ≡ written xs (3 * i) (shortOf v) wide → Filled out (convertedAt f cs) (3 * next) ys
   point-more out xs ys i v wide e is w room h g = filled-wide (shortOf v) 3 wide (omega arith) w room (λ j l. short-at i v j is l) h g
 
-  -- a turn: the first k of the numbers v, which are points from i on
+  -- the first k of the numbers v, which are points from i on
   pub run-filled : (v : List ℕ) (i : ℕ) (out xs : List ℕ) (k : ℕ) → k ≤ 8 → 3 * (i + k) + 1 ≤ length out → ((j : ℕ) → j < 8 → getD v j 0 ≡ pointOf f cs (i + j)) → Filled out (convertedAt f cs) (3 * i) xs
       → Filled out (convertedAt f cs) (3 * (i + k)) (storedOf v i k xs)
   unfolding storedOf
@@ -72,24 +72,14 @@ rows-small rows x y z zero = row-small (rows .first) x y z
 rows-small rows x y z (suc zero) = row-small (rows .second) x y z
 rows-small rows x y z (suc (suc j)) = row-small (rows .third) x y z
 
--- ---- eight points of a line in numbers v, of which k are stored: those of a turn, and those of the last turn but for the last point
-module _ (rows : FloatRows) (cs : List ℕ) (i : ℕ) (out xs : List ℕ) (v ys : List ℕ) where
-  abbrev done : ℕ → List ℕ → Type 0
-  done n zs = Filled out (convertedAt (rowsCode rows) cs) (3 * n) zs
-
-  pub turn-filled : (k : ℕ) → k ≤ 8 → 3 * (i + k) + 1 ≤ length out → v ≡ tabulate 8 (λ j. pointOf (rowsCode rows) cs (i + j)) → done i xs → ys ≡ storedOf v i k xs → done (i + k) ys
-  turn-filled k h room e d f =
-      subst (λ (zs : List ℕ). done (i + k) zs) (sym f)
-      (run-filled (rowsCode rows) (rows-small rows) cs v i out xs k h room (λ j l. ap (λ (zs : List ℕ). getD zs j 0) e ∙ getD-tabulate 8 (λ m. pointOf (rowsCode rows) cs (i + m)) j 0 l) d)
-
-  -- the last turn, and with it the line
-  pub line-filled : (n : ℕ) (zs : List ℕ) → i + 8 ≡ n → length cs ≡ 3 * n → length out ≡ 3 * n → v ≡ tabulate 8 (λ j. pointOf (rowsCode rows) cs (i + j)) → done i xs
-      → ys ≡ storedOf v i 7 xs → zs ≡ written ys (3 * n - 3) (shortOf (getD v 7 0)) 3 → zs ≡ convertedOf (rowsCode rows) cs
-  line-filled n zs q es eo e d f g =
-      let at : 3 * n - 3 ≡ 3 * (i + 7) = omega arith in
-      converted-all (rowsCode rows) cs out zs n n es eo (omega arith) (omega arith)
-      (point-more (rowsCode rows) (rows-small rows) cs out ys zs (i + 7) (getD v 7 0) 3 (omega arith) (ap (λ (us : List ℕ). getD us 7 0) e ∙ getD-tabulate 8 (λ m. pointOf (rowsCode rows) cs (i + m)) 7 0 (omega arith)) (omega arith) (omega arith)
-      (turn-filled 7 (omega arith) (omega arith) e d f) (g ∙ ap (λ (m : ℕ). written ys m (shortOf (getD v 7 0)) 3) at))
+-- a turn: eight points of a line in numbers v, from point i on
+pub turn-filled : (rows : FloatRows) (cs : List ℕ) (i : ℕ) (out xs v ys : List ℕ) → 3 * i + 24 ≤ length out → v ≡ tabulate 8 (λ j. pointOf (rowsCode rows) cs (i + j)) → Filled out (convertedAt (rowsCode rows) cs) (3 * i) xs
+    → ys ≡ written (storedOf v i 7 xs) (3 * i + 21) (shortOf (getD v 7 0)) 3 → Filled out (convertedAt (rowsCode rows) cs) (3 * (i + 8)) ys
+turn-filled rows cs i out xs v ys room e d f =
+    let is : (j : ℕ) → j < 8 → getD v j 0 ≡ pointOf (rowsCode rows) cs (i + j) = λ j l. ap (λ (zs : List ℕ). getD zs j 0) e ∙ getD-tabulate 8 (λ m. pointOf (rowsCode rows) cs (i + m)) j 0 l in
+    let at : 3 * i + 21 ≡ 3 * (i + 7) = omega arith in
+    point-more (rowsCode rows) (rows-small rows) cs out (storedOf v i 7 xs) ys (i + 7) (getD v 7 0) 3 (omega arith) (is 7 (omega arith)) (omega arith) (omega arith)
+    (run-filled (rowsCode rows) (rows-small rows) cs v i out xs 7 (omega arith) (omega arith) is d) (f ∙ ap (λ (m : ℕ). written (storedOf v i 7 xs) m (shortOf (getD v 7 0)) 3) at)
 
 -- lines of one length, and of whole points
 pub alike-points : (size output : ℕ) → alike size output ≡ true → (size ≡ 3 * (size / 3)) × (output ≡ 3 * (size / 3))

@@ -1,6 +1,6 @@
 // All points of a line, eight at a turn: side by side they are worked out four times as fast as one by one.
 ghost use mathlib.Core.Path.{_≡_};
-ghost use Prim.Native.Nat.{_+_, _*_, _≤_};
+ghost use Prim.Native.Nat.{_+_, _*_, _≤_, _<_};
 ghost use lib.ListN.{length};
 ghost use Rattle.lists.specs.Lists.{tabulate};
 ghost use Rattle.color_equations.specs.Line.{convertedOf};
@@ -8,7 +8,7 @@ ghost use Rattle.color_line.specs.inner.Rows.{rowsCode, pointOf};
 use crate::row::FloatRows;
 use crate::row::point;
 use crate::store::store3;
-use crate::store::store_points;
+use crate::store::store_eight;
 
 // The codes of point i.
 fn point_at(rows: FloatRows, codes: &[u16], i: usize) -> u64
@@ -45,20 +45,26 @@ fn few(rows: FloatRows, codes: &[u16], out: &mut [u16], n: usize)
     }
 }
 
+// Where a turn starts once so many points are done: after them, or at the last eight points.
+fn turn_at(done: usize, n: usize) -> usize
+    requires { ⌜ (8 ≤ n) × (done < n) ⌝ }
+    ensures { λ r. ⌜ (r ≤ done) × (r + 8 ≤ n) × (done < r + 8) ⌝ }
+{
+    if n - done < 8 { n - 8 } else { done }
+}
+
 // The others. The last turn takes the last eight points, some of which may be done already: they come out the same.
 fn many(rows: FloatRows, codes: &[u16], out: &mut [u16], n: usize)
     requires { ⌜ (8 ≤ n) × (length (now codes) ≡ 3 * n) × (length (now out) ≡ 3 * n) ⌝ }
     ensures { λ _. ⌜ now (out .exit) ≡ convertedOf (rowsCode rows) (now (codes .entry)) ⌝ }
 {
-    let mut i = 0;
-    while i + 8 < n {
+    let mut done = 0;
+    while done < n {
+        let i = turn_at(done, n);
         let v = eight_at(rows, codes, i);
-        store_points(v, 8, out, i);
-        i += 8;
+        store_eight(v, out, i);
+        done = i + 8;
     }
-    let last = eight_at(rows, codes, n - 8);
-    store_points(last, 7, out, n - 8);
-    store3(out, 3 * n - 3, last[7]);
 }
 
 pub(crate) fn points(rows: FloatRows, codes: &[u16], out: &mut [u16], n: usize)

@@ -1,18 +1,18 @@
--- `color_line::store_points` meets its contract: each turn stores one number. Assumes nothing.
+-- `color_line::store_seven` meets its contract: each turn stores one number. Assumes nothing.
 use Prim.Native.Nat.{ℕ, _-_, _≤_}
 use native.Mathlib.Omega.{arith}
 use mathlib.Core.Path.{_≡_, refl, ap, _∙_}
 use lib.ListN.{length}
 use Rattle.color_line.specs.inner.Rows.{storedOf}
 use Rattle.color_line.proofs.Stores.{length-stored, stored-more}
-use Rattle.color_line.proofs.store.store_points.Statement.{statement}
-use Rattle.color_line.proofs.store.store_points.Tie as tie
+use Rattle.color_line.proofs.store.store_seven.Statement.{statement}
+use Rattle.color_line.proofs.store.store_seven.Tie as tie
 
 abbrev Inv-loop : tie.InvT-loop
-Inv-loop k out₀ i v j₀ out j = (j ≤ k) × (out ≡ storedOf v i j out₀)
+Inv-loop out₀ i v j₀ out j = (j ≤ 7) × (out ≡ storedOf v i j out₀)
 
 abbrev μ-loop : tie.MeasureT-loop
-μ-loop k out₀ i v j₀ out j = k - j
+μ-loop out₀ i v j₀ out j = 7 - j
 
 loop-holds : tie.Need-loop-holds Inv-loop μ-loop
 unfolding storedOf
@@ -58,11 +58,11 @@ returns : tie.Need-returns Inv-loop μ-loop
 returns c =
     let s = c .before .before .before in
     let l = c .before .loop in
-    let e : l .j ≡ s .args .k = omega arith in
+    let e : l .j ≡ 7 = omega arith in
     l .inv .1 ∙ ap (λ (k : ℕ). storedOf (s .args .t1) (s .args .i) k (s .args .out .now)) e
 
-pub store-points-spec : {M : Type 1} → statement M
-store-points-spec =
+pub store-seven-spec : {M : Type 1} → statement M
+store-seven-spec =
     tie.close
     (tie.spec
     Inv-loop
