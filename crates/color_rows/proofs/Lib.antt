@@ -2,3 +2,4 @@ pub mod Sizes
 pub mod Table
 pub mod Known
 mod Ranges
+mod Differences

@@ -20,40 +20,41 @@ pub struct GreenTerms {
     pub half: u64,
 }
 
-// BT.709, BT.601 EBU, BT.601 SMPTE, BT.2020.
-const ROWS: [GreenTerms; 4] = [
-    GreenTerms {
-        luma: 667520000,
-        red: 305507263,
-        blue: 122251567,
-        half: 3480640000,
-    },
-    GreenTerms {
-        luma: 65744000,
-        red: 45902181,
-        blue: 22119876,
-        half: 342808000,
-    },
-    GreenTerms {
-        luma: 65744000,
-        red: 45902181,
-        blue: 22119876,
-        half: 342808000,
-    },
-    GreenTerms {
-        luma: 2531200000,
-        red: 1413927583,
-        blue: 407219623,
-        half: 13198400000,
-    },
-];
-
-// The row of primaries 1 to 4.
+// The row of primaries 1 to 4. (A match is cheaper than an array, which every call would build anew.)
 pub(crate) fn green_terms(primaries: u8) -> GreenTerms
     requires { ⌜ primariesKnown primaries ≡ true ⌝ }
     ensures { λ r. ⌜ r ≡ greenTerms primaries ⌝ }
 {
-    ROWS[(primaries - 1) as usize]
+    match primaries {
+        // BT.709
+        1 => GreenTerms {
+            luma: 667520000,
+            red: 305507263,
+            blue: 122251567,
+            half: 3480640000,
+        },
+        // BT.601 EBU
+        2 => GreenTerms {
+            luma: 65744000,
+            red: 45902181,
+            blue: 22119876,
+            half: 342808000,
+        },
+        // BT.601 SMPTE
+        3 => GreenTerms {
+            luma: 65744000,
+            red: 45902181,
+            blue: 22119876,
+            half: 342808000,
+        },
+        // BT.2020
+        _ => GreenTerms {
+            luma: 2531200000,
+            red: 1413927583,
+            blue: 407219623,
+            half: 13198400000,
+        },
+    }
 }
 
 // The span of the codes that come out, over 21 s, in lowest terms: span / whole.

@@ -1,6 +1,7 @@
 // Values that are linear in a point's three codes, and the rows whose whole parts are their codes.
 ghost use mathlib.Core.Path.{_≡_};
-ghost use Rattle.color_rows.specs.inner.Rows.{codedOf, floatsOf};
+ghost use Prim.Native.Nat.{_+_, _^_, _≤_};
+ghost use Rattle.color_rows.specs.inner.Rows.{codedOf, differenceOf, floatsOf};
 ghost use Rattle.color_rows.specs.inner.Sizes.{Small};
 use color_line::FloatRow;
 use quantization::Scale;
@@ -55,6 +56,14 @@ fn coded(value: Value, span: u64, to: Scale) -> Row
     }
 }
 
+// plus - minus in f64, exactly. (A signed number becomes a float in one instruction, and an unsigned one in several.)
+fn difference(plus: u64, minus: u64) -> f64
+    requires { ⌜ plus + minus ≤ 2 ^ 53 ⌝ }
+    ensures { λ r. ⌜ r ≡ differenceOf plus minus ⌝ }
+{
+    (plus as i64 - minus as i64) as f64
+}
+
 // The row in f64, exactly: no number is above 2^53.
 fn floats(row: Row) -> FloatRow
     requires { ⌜ Small row ⌝ }
@@ -62,10 +71,10 @@ fn floats(row: Row) -> FloatRow
 {
     let sum = row.sum;
     FloatRow {
-        first: sum.plus0 as f64 - sum.minus0 as f64,
-        second: sum.plus1 as f64 - sum.minus1 as f64,
-        third: sum.plus2 as f64 - sum.minus2 as f64,
-        more: (sum.plus + 4096 * row.over) as f64 - sum.minus as f64,
+        first: difference(sum.plus0, sum.minus0),
+        second: difference(sum.plus1, sum.minus1),
+        third: difference(sum.plus2, sum.minus2),
+        more: difference(sum.plus + 4096 * row.over, sum.minus),
         over: row.over as f64,
         low: row.low,
         high: row.high,

@@ -1,37 +1,48 @@
 -- A row in f64 gives the row's whole part: every sum is exact, and the quotient is rounded once, to 40 binary digits below the point. Assumes nothing.
 use mathlib.Core.Path.{_≡_, refl, sym, ap, _∙_, subst}
-use Prim.Native.Nat.{ℕ, _+_, _-_, _*_, _/_, _^_, _≤_}
-use native.Mathlib.Nat.{le-trans, le-of-eq, add-zero, zero-add, add-mul, mul-one, mul-le-mul-left}
+use Prim.Native.Nat.{ℕ, suc, _+_, _-_, _*_, _/_, _^_, _≤_, _<_}
+use native.Mathlib.Nat.{le-trans, le-of-eq, le-of-lt, add-mul, mul-one, mul-le-mul-left}
 use native.Mathlib.Omega.{arith}
-use mathlib.Core.Bool.{false}
+use mathlib.Core.Bool.{true, false}
 use lib.Dec.{lit≤}
-use lib.Ieee.{Float, binary64, round, add, sub, mul, div, ofInt}
+use lib.IntN.{ℤ}
+use lib.Ieee.{Float, binary64, round, add, mul, div, ofInt}
 use lib.Ieee.Exact.{HasValue}
 use lib.Ieee.Back.{round-whole}
 use Rattle.fractions.specs.Fraction.{bounded}
+use Rattle.fractions.proofs.Integers.{minus-cases}
 use Rattle.floats.specs.Floor.{wholeWithin}
 use Rattle.floats.proofs.Floors.{float, Rounded, rounded-floor, apart-small, beyond}
-use Rattle.floats.proofs.Wholes.{Whole, whole-of, whole-mul, whole-add, whole-sub, whole-div}
+use Rattle.floats.proofs.Wholes.{distance, Whole, whole-mul, whole-add, whole-div}
 use Rattle.color_line.specs.inner.Rows.{quotientOf, rowCode}
 use Rattle.color_rows.specs.declared.linear.Row.{Row}
-use Rattle.color_rows.specs.inner.Rows.{wholeAt, floatsOf}
+use Rattle.color_rows.specs.inner.Rows.{wholeAt, differenceOf, floatsOf}
 use Rattle.color_rows.specs.inner.Sizes.{Fits}
 
 is : (k : ℕ) → k ≤ 2 ^ 53 → HasValue (float k) false k 1
 is k h = round-whole binary64 false k h
 
+over : (p m : ℕ) → m ≤ p → p - m ≡ distance p m
+unfolding distance
+over p m h = omega arith
+
+under : (p m : ℕ) → p < m → suc (m - suc p) ≡ distance p m
+unfolding distance
+under p m h = omega arith
+
 -- a difference, and a product with it
-difference : (p m : ℕ) → p + m ≤ 2 ^ 53 → Whole (sub binary64 (float p) (float m)) p m
+difference : (p m : ℕ) → p + m ≤ 2 ^ 53 → Whole (differenceOf p m) p m
+unfolding ofInt
 difference p m h =
-    subst (λ (a : ℕ). Whole (sub binary64 (float p) (float m)) a m) (add-zero p)
-    (subst (λ (b : ℕ). Whole (sub binary64 (float p) (float m)) (p + 0) b) (zero-add m)
-    (whole-sub p 0 0 m (omega arith) (float p) (float m) (whole-of (float p) p (is p (omega arith))) (whole-of (float m) m (is m (omega arith)))))
+    minus-cases (λ (z : ℤ). Whole (ofInt binary64 z) p m) p m
+    (λ l. record { sign = false; value = subst (λ (a : ℕ). HasValue (round binary64 false (p - m) 1) false a 1) (over p m l) (round-whole binary64 false (p - m) (omega arith)); signed = l })
+    (λ l. record { sign = true; value = subst (λ (a : ℕ). HasValue (round binary64 true (suc (m - suc p)) 1) true a 1) (under p m l) (round-whole binary64 true (suc (m - suc p)) (omega arith)); signed = le-of-lt l })
 
 abbrev term : ℕ → ℕ → ℕ → Float
-term p m x = mul binary64 (sub binary64 (float p) (float m)) (float x)
+term p m x = mul binary64 (differenceOf p m) (float x)
 
 times : (p m x : ℕ) → p + m ≤ 2 ^ 53 → x ≤ 4095 → p * x + m * x ≤ 2 ^ 53 → Whole (term p m x) (p * x) (m * x)
-times p m x h k l = whole-mul (sub binary64 (float p) (float m)) (float x) p m x (difference p m h) (is x (omega arith)) l
+times p m x h k l = whole-mul (differenceOf p m) (float x) p m x (difference p m h) (is x (omega arith)) l
 
 -- each part of a row is at most what it is at the top
 part-le : (p m top x : ℕ) → x ≤ top → p * x + m * x ≤ (p + m) * top
@@ -90,7 +101,7 @@ module _ (r : Row) (top x y z : ℕ) (f : Fits r top) (least : 1 ≤ top) (most 
   third = let a = once-le (p2 + m2) top least in let s = f .sums in omega arith
 
   abbrev constant : Float
-  constant = sub binary64 (float more) (float less)
+  constant = differenceOf more less
 
   abbrev two : Float
   two = add binary64 (term p0 m0 x) (term p1 m1 y)

@@ -1,7 +1,7 @@
 -- The code's own arithmetic, on natural numbers and then in f64. A reader need not believe it: crates/color_rows_laws shows that it is `ycbcrOf` and `rgbOf`. Assumes nothing.
 use Prim.Native.Nat.{ℕ, _+_, _-_, _*_, _/_, _^_}
-use lib.IntN.{pos}
-use lib.Ieee.{binary64, sub, ofInt}
+use lib.IntN.{pos, _-ℤ_}
+use lib.Ieee.{Float, binary64, ofInt}
 use Rattle.layout.specs.declared.range.Range.{Range}
 use Rattle.layout.specs.declared.range.Range.the-variants.{Narrow, Full}
 use Rattle.layout.specs.declared.depth.Depth.{Depth}
@@ -57,14 +57,18 @@ codedOf v span sc =
 abbrev pub codeRow : Value → Scale → Row
 codeRow v sc = codedOf v (sc .span) sc
 
+-- plus - minus as an f64
+abbrev pub differenceOf : ℕ → ℕ → Float
+differenceOf plus minus = ofInt binary64 (pos plus -ℤ pos minus)
+
 -- a row in f64, 4096 above its fraction
 unfoldable pub floatsOf : Row → FloatRow
 floatsOf r =
     record {
-      first = sub binary64 (ofInt binary64 (pos (r .sum .plus0))) (ofInt binary64 (pos (r .sum .minus0)));
-      second = sub binary64 (ofInt binary64 (pos (r .sum .plus1))) (ofInt binary64 (pos (r .sum .minus1)));
-      third = sub binary64 (ofInt binary64 (pos (r .sum .plus2))) (ofInt binary64 (pos (r .sum .minus2)));
-      more = sub binary64 (ofInt binary64 (pos (r .sum .plus + 4096 * r .over))) (ofInt binary64 (pos (r .sum .minus)));
+      first = differenceOf (r .sum .plus0) (r .sum .minus0);
+      second = differenceOf (r .sum .plus1) (r .sum .minus1);
+      third = differenceOf (r .sum .plus2) (r .sum .minus2);
+      more = differenceOf (r .sum .plus + 4096 * r .over) (r .sum .minus);
       over = ofInt binary64 (pos (r .over));
       low = r .low;
       high = r .high;
