@@ -172,21 +172,11 @@ fn encode<const BYTES: usize>(layout: Layout, values: &[f32], packed: &mut [u8])
     }
 }
 
-/// The code of a float that is a number, in whole numbers: floor(span * v + base
-/// + 1/2), clamped, where v is plus or minus digits/2^bits.
-///
-/// The exponent field is first brought to 110 .. 129. Below, the product is under
-/// a half and the base is the code, as it is at 110 for all digits. Above, the
-/// number is clamped, as it is at 129. So the sum stays within 64 bits.
+/// The code of a float that is a number: floor(span * v + base + 1/2), clamped. An
+/// f64 holds the product.
 pub fn code(scale: Scale, greatest: u64, value: f32) -> u64 {
-    let field = (magnitude(value) >> 23).clamp(110, 129);
-    let bits = 150 - field;
-    let digits = i64::from(value.to_bits() & 0x7f_ffff | 1 << 23);
-    // All ones for a negative float: then this is minus the product.
-    let sign = i64::from(value.to_bits() as i32 >> 31);
-    let product = ((scale.span * digits) ^ sign) - sign;
-    let number = (product + ((2 * scale.base + 1) << (bits - 1))) >> bits;
-    number.clamp(0, greatest as i64) as u64
+    let number = f64::from(value) * scale.span as f64 + (scale.base as f64 + 0.5);
+    number.clamp(0.0, greatest as f64) as i32 as u64
 }
 
 /// The bits of a float without its sign.

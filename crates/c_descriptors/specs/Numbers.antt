@@ -2,8 +2,8 @@
 use Prim.Native.Nat.{ℕ}
 use mathlib.Core.List.{List}
 use lib.IntN.{ℤ, pos, negℤ}
-use Rattle.descriptor_reader.specs.declared.DescriptorReading.{DescriptorReading}
-use Rattle.descriptor_reader.specs.declared.DescriptorReading.the-variants.{Accepted, Refused as NoLayout}
+use Rattle.descriptor_layout.specs.declared.DescriptorReading.{DescriptorReading}
+use Rattle.descriptor_layout.specs.declared.DescriptorReading.the-variants.{Accepted, Refused as NoLayout}
 use Rattle.c_types.specs.Layouts.{layoutBytes}
 
 -- 0 for a layout

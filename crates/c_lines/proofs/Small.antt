@@ -11,7 +11,7 @@ use Rattle.refusal.specs.Refusal.{notANumber, codeTooHigh}
 use Rattle.line.specs.Line.{codesWithin}
 use Rattle.line.specs.Answer.{fitting, points, unpackAnswer, packAnswer}
 use Rattle.line.proofs.Answers.{packed-points}
-use Rattle.packing.specs.Encode.{allNumbers, encodeAnswer}
+use Rattle.encoding.specs.Encode.{allNumbers, encodeAnswer}
 use Rattle.c_types.proofs.Lines.{smallLine, two, three, count}
 
 -- a line that fits its packed bytes

@@ -3,7 +3,7 @@ ghost use mathlib.Core.Path.{_≡_};
 ghost use lib.ListN.{length};
 ghost use Rattle.line.specs.Line.{pointValues};
 ghost use Rattle.line.specs.Answer.{unpackAnswer, unpackOutput, packAnswer, packOutput};
-ghost use Rattle.packing.specs.Encode.{encodeAnswer, encodeOutput};
+ghost use Rattle.encoding.specs.Encode.{encodeAnswer, encodeOutput};
 ghost use Rattle.decoding.specs.Decode.{decodeAnswer, decodeOutput, decodePoint};
 ghost use Rattle.c_types.specs.Layouts.{layoutOf};
 ghost use Rattle.c_types.specs.Numbers.{lineNumber};

@@ -37,10 +37,14 @@ pub fn read(bytes: &[u8], edition: u8) -> CardReading
     if !front::front_right(bytes, facts) {
         return CardReading::Refused(refusal::OUTSIDE);
     }
-    if access::unknown(bytes[1], bytes[24], edition) {
+    // Both tests before either answer: past one more return the compiler takes the second for rare and does not inline it,
+    // and `read` takes twice as long.
+    let unknown = access::unknown(bytes[1], bytes[24], edition);
+    let wrong = end::end_wrong(bytes, edition);
+    if unknown {
         return CardReading::Refused(refusal::UNKNOWN_ACCESS);
     }
-    if end::end_wrong(bytes, edition) {
+    if wrong {
         return CardReading::Refused(refusal::OUTSIDE);
     }
     CardReading::Shown(facts)

@@ -22,12 +22,11 @@ pub fn write(edition: u8, facts: Facts, out: &mut [u8]) -> Written
     ensures answer { λ r. ⌜ r ≡ writeAnswer edition facts (length (now (out .entry))) ⌝ }
     ensures memory { λ r. ⌜ now (out .exit) ≡ writeOutput edition facts (now (out .entry)) ⌝ }
 {
-    let known = edition::known(edition);
-    let valid = facts.valid();
-    let late = unwritable(edition, facts);
-    if !known {
+    if !edition::known(edition) {
         return Written::Refused(refusal::UNKNOWN_EDITION);
     }
+    let valid = facts.valid();
+    let late = unwritable(edition, facts);
     if !valid {
         return Written::Refused(refusal::OUTSIDE);
     }

@@ -24,8 +24,8 @@ use Rattle.line.specs.declared.LineAnswer.the-variants.{Points}
 use Rattle.line.specs.Line.{codeAt, codesOf, packedOf, CodeLine}
 use Rattle.line.specs.Answer.{fitting, accepted}
 use Rattle.line.proofs.Answers.{fits, unpack-outside, unpack-unfit, unpack-points}
-use Rattle.packing.specs.Encode.{valueCode, quantizedOf, encodeAnswer, encodeOutput}
-use Rattle.packing.proofs.Answers.{encode-points}
+use Rattle.encoding.specs.Encode.{valueCode, quantizedOf, encodeAnswer, encodeOutput}
+use Rattle.encoding.proofs.Answers.{encode-points}
 use Rattle.decoding.specs.Decode.{valuesOf, decodeAnswer, decodeOutput}
 use Rattle.decoding.proofs.One.{firstOf, shown, as-line}
 use Rattle.scanline_laws.proofs.Accepted.{fit, unpacking-accepted}

@@ -14,7 +14,7 @@ use Rattle.line.specs.declared.LineAnswer.the-variants.{Points, Refused as Line
 use Rattle.line.specs.Point.{pointOf}
 use Rattle.line.specs.Line.{codeAt, joined, byteAt, packedOf}
 use Rattle.line.specs.Answer.{unpackAnswer}
-use Rattle.packing.specs.Encode.{valueCode, quantizedOf}
+use Rattle.encoding.specs.Encode.{valueCode, quantizedOf}
 use Rattle.decoding.specs.declared.DecodedPoint.the-variants.{Decoded, Refused}
 use Rattle.decoding.specs.Decode.{valueAt, valuesOf, decodeAnswer, firstPoint, decodePoint}
 

@@ -31,7 +31,7 @@ use Rattle.quantization_laws.proofs.Printed.{ends-printed}
 use Rattle.quantization_laws.proofs.Return.{code-returns}
 use Rattle.line.specs.Point.{pointOf}
 use Rattle.line.specs.Line.{codeAt, codesOf, PackedLine}
-use Rattle.packing.specs.Encode.{valueCode, quantizedOf, allNumbers}
+use Rattle.encoding.specs.Encode.{valueCode, quantizedOf, allNumbers}
 use Rattle.decoding.specs.Decode.{valueAt, valuesOf}
 use Rattle.decoding_laws.specs.Claims.{clampedTo, withinEnds}
 

@@ -18,7 +18,7 @@ use Rattle.line.specs.declared.LineAnswer.the-variants.{Points, Refused as Line
 use Rattle.line.specs.declared.Point.{Point}
 use Rattle.line.specs.Line.{codeAt, codesOf, packedOf, pointValues, PackedLine}
 use Rattle.line.specs.Answer.{mostPoints}
-use Rattle.packing.specs.Encode.{quantizedOf, allNumbers, encodeAnswer, encodeOutput}
+use Rattle.encoding.specs.Encode.{quantizedOf, allNumbers, encodeAnswer, encodeOutput}
 use Rattle.decoding.specs.declared.DecodedPoint.the-variants.{Decoded, Refused}
 use Rattle.decoding.specs.Decode.{valuesOf, decodeAnswer, decodeOutput, decodePoint}
 use Rattle.scanline_laws.specs.Cleared.{cleared}

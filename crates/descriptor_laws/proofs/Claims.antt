@@ -9,7 +9,7 @@ use lib.Dec.{eqb}
 use lib.ListN.{length}
 use Rattle.layout.specs.declared.Layout.{Layout}
 use Rattle.layout.specs.Layout.{validLayout}
-use Rattle.descriptor_reader.specs.declared.DescriptorReading.the-variants.{Accepted}
+use Rattle.descriptor_layout.specs.declared.DescriptorReading.the-variants.{Accepted}
 use Rattle.refusal.specs.declared.Written.{Written}
 use Rattle.refusal.specs.declared.Written.the-variants.{Done, Refused}
 use Rattle.descriptor_reader.specs.Reading.{readDescriptor}

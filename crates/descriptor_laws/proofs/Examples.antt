@@ -6,10 +6,11 @@ use lib.ListN.{set}
 use Rattle.lists.specs.Bytes.{bytesOf}
 use Rattle.layout.specs.declared.Layout.{Layout}
 use Rattle.descriptor_samples.specs.Samples.{states, allState, rangeIn, samplesRight}
-use Rattle.descriptor_reader.specs.declared.DescriptorReading.the-variants.{Accepted, Refused}
-use Rattle.descriptor_reader.specs.Sample.{sampleIn, samplesIn, offsetIn}
+use Rattle.descriptor_layout.specs.declared.DescriptorReading.the-variants.{Accepted, Refused}
+use Rattle.descriptor_reader.specs.Sample.{sampleIn, samplesIn}
 use Rattle.descriptor_reader.specs.Header.{headerRight, colorRight, planesRight}
-use Rattle.descriptor_reader.specs.Reading.{layoutFrom, readSamples, readDescriptor}
+use Rattle.descriptor_layout.specs.Told.{offsetIn, layoutFrom, readSamples}
+use Rattle.descriptor_reader.specs.Reading.{readDescriptor}
 use Rattle.descriptor_writer.specs.Field.{rising, fieldsOf}
 use Rattle.descriptor_writer.specs.Sample.{sampleBytes, sampleOf, samplesOf}
 use Rattle.descriptor_writer.specs.Writing.{frontBytes, samplesBytes, descriptorBytes}

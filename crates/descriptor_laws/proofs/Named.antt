@@ -16,9 +16,9 @@ use Rattle.descriptor_writer.specs.declared.field.Field.{Field}
 use Rattle.descriptor_writer.specs.Field.{rising, fieldsOf}
 use Rattle.descriptor_samples.specs.Limits.{upperOf}
 use Rattle.descriptor_samples.specs.Samples.{allState, rangeIn, eachOnce}
-use Rattle.descriptor_reader.specs.Sample.{offsetIn}
+use Rattle.descriptor_layout.specs.Told.{offsetIn}
 use Rattle.descriptor_writer.specs.Sample.{sampleOf, samplesOf}
-use Rattle.descriptor_reader.proofs.Right.{Right}
+use Rattle.descriptor_layout.proofs.Right.{Right}
 use Rattle.descriptor_laws.proofs.Order.{three}
 use Rattle.descriptor_laws.proofs.Samples.{field, sampleFor, samplesFor, rangeFrom, Of}
 

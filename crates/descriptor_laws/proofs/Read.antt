@@ -19,16 +19,17 @@ use Rattle.layout.specs.declared.range.Range.{Range}
 use Rattle.layout.specs.Layout.{modelKnown, primariesKnown, rangeKnown, rangeOf, depthKnown, bytesKnown, kindOf, validLayout}
 use Rattle.descriptor_samples.specs.declared.sample.Sample.{Sample}
 use Rattle.descriptor_samples.specs.declared.samples.Samples.{Samples}
-use Rattle.descriptor_reader.specs.declared.DescriptorReading.{DescriptorReading}
-use Rattle.descriptor_reader.specs.declared.DescriptorReading.the-variants.{Accepted, Refused}
+use Rattle.descriptor_layout.specs.declared.DescriptorReading.{DescriptorReading}
+use Rattle.descriptor_layout.specs.declared.DescriptorReading.the-variants.{Accepted, Refused}
 use Rattle.descriptor_samples.specs.Limits.{lowerOf, upperOf}
 use Rattle.descriptor_samples.specs.Samples.{states, allState, samplesRight}
 use Rattle.descriptor_reader.specs.Sample.{sampleIn, samplesIn}
 use Rattle.descriptor_writer.specs.Sample.{sampleBytes}
 use Rattle.descriptor_reader.specs.Header.{zeros, headerRight, colorRight, planesRight}
-use Rattle.descriptor_reader.specs.Reading.{layoutFrom, readSamples, readDescriptor}
+use Rattle.descriptor_layout.specs.Told.{layoutFrom, readSamples}
+use Rattle.descriptor_reader.specs.Reading.{readDescriptor}
 use Rattle.descriptor_writer.specs.Writing.{frontBytes, samplesBytes, descriptorBytes}
-use Rattle.descriptor_reader.proofs.Right.{Right, right-says}
+use Rattle.descriptor_layout.proofs.Right.{Right, right-says}
 use Rattle.descriptor_reader.proofs.Answers.{planes-bytes}
 use Rattle.descriptor_laws.proofs.Samples.{rangeFrom, layoutIn, Of}
 use Rattle.descriptor_laws.proofs.Named.{range-stated, Told, told-by}

@@ -21,11 +21,11 @@ use Rattle.descriptor_samples.specs.Limits.{lowerOf, upperOf}
 use Rattle.descriptor_writer.specs.declared.field.Field.{Field}
 use Rattle.descriptor_writer.specs.declared.field.Fields.{Fields}
 use Rattle.descriptor_writer.specs.Field.{fieldsOf}
-use Rattle.descriptor_reader.specs.Reading.{layoutFrom}
+use Rattle.descriptor_layout.specs.Told.{offsetIn, layoutFrom}
 use Rattle.descriptor_samples.specs.Samples.{states, allState, rangeIn, eachOnce, samplesRight}
-use Rattle.descriptor_reader.specs.Sample.{samplesIn, offsetIn}
+use Rattle.descriptor_reader.specs.Sample.{samplesIn}
 use Rattle.descriptor_writer.specs.Sample.{sampleOf, samplesOf}
-use Rattle.descriptor_reader.proofs.Right.{Right}
+use Rattle.descriptor_layout.proofs.Right.{Right}
 use Rattle.descriptor_laws.proofs.Order.{three, rising-by}
 
 -- all that a sample of a layout says but its channel and offset

@@ -20,7 +20,7 @@ use Rattle.layout.proofs.Depths.{Steps, steps}
 use Rattle.layout.proofs.Facts.{Valid, valid-says}
 use Rattle.descriptor_samples.specs.declared.sample.Sample.{Sample}
 use Rattle.descriptor_samples.specs.declared.samples.Samples.{Samples}
-use Rattle.descriptor_reader.specs.declared.DescriptorReading.the-variants.{Accepted}
+use Rattle.descriptor_layout.specs.declared.DescriptorReading.the-variants.{Accepted}
 use Rattle.descriptor_writer.specs.declared.field.Field.{Field}
 use Rattle.descriptor_writer.specs.Field.{fieldsOf}
 use Rattle.descriptor_samples.specs.Limits.{lowerOf, upperOf}
@@ -28,9 +28,11 @@ use Rattle.descriptor_samples.specs.Samples.{samplesRight}
 use Rattle.descriptor_reader.specs.Sample.{sampleIn, samplesIn}
 use Rattle.descriptor_writer.specs.Sample.{sampleBytes, sampleOf, samplesOf}
 use Rattle.descriptor_reader.specs.Header.{headerRight, colorRight, planesRight}
-use Rattle.descriptor_reader.specs.Reading.{layoutFrom, readDescriptor}
+use Rattle.descriptor_layout.specs.Told.{layoutFrom}
+use Rattle.descriptor_reader.specs.Reading.{readDescriptor}
 use Rattle.descriptor_writer.specs.Writing.{frontBytes, samplesBytes, descriptorBytes}
-use Rattle.descriptor_reader.proofs.Answers.{accepted, samples-decide}
+use Rattle.descriptor_layout.proofs.Answers.{accepted}
+use Rattle.descriptor_reader.proofs.Answers.{samples-decide}
 use Rattle.descriptor_laws.proofs.Order.{rising-all}
 use Rattle.descriptor_laws.proofs.Samples.{field, rangeFrom, layoutIn, Of, of-samples, right-samples, range-samples, offsets}
 use Rattle.descriptor_laws.specs.Claims.{Accepts}

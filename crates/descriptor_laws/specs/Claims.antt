@@ -8,7 +8,7 @@ use Rattle.lists.specs.Bytes.{areBytes}
 use Rattle.layout.specs.declared.Layout.{Layout}
 use Rattle.layout.specs.Layout.{validLayout}
 use Rattle.descriptor_samples.specs.Size.{descriptorSize}
-use Rattle.descriptor_reader.specs.declared.DescriptorReading.the-variants.{Accepted}
+use Rattle.descriptor_layout.specs.declared.DescriptorReading.the-variants.{Accepted}
 use Rattle.refusal.specs.declared.Written.the-variants.{Done}
 use Rattle.descriptor_reader.specs.Reading.{readDescriptor}
 use Rattle.descriptor_writer.specs.Writing.{descriptorBytes, writeAnswer, writeOutput}

@@ -1,19 +1,19 @@
 -- The answers of reading, by the tests that lead to them. Assumes nothing.
 use mathlib.Core.Path.{_≡_, refl, sym, ap, _∙_}
-use mathlib.Core.Bool.{true, false, not, _&&_}
+use mathlib.Core.Bool.{true, false, not, cond, _&&_}
 use mathlib.Core.List.{List}
-use Prim.Native.Nat.{ℕ, _+_}
+use Prim.Native.Nat.{ℕ}
 use lib.Dec.{eqb}
 use lib.ListN.{length, getD}
 use Rattle.lists.proofs.Tests.{and-left, and-right, pass, stop}
-use Rattle.layout.specs.declared.Layout.{Layout}
 use Rattle.layout.specs.Layout.{bytesKnown}
-use Rattle.descriptor_samples.specs.declared.samples.Samples.{Samples}
-use Rattle.descriptor_samples.specs.Samples.{samplesRight, rangeIn}
 use Rattle.descriptor_reader.specs.Sample.{samplesIn}
-use Rattle.descriptor_reader.specs.declared.DescriptorReading.the-variants.{Accepted, Refused}
+use Rattle.descriptor_samples.specs.declared.samples.Samples.{Samples}
+use Rattle.descriptor_layout.specs.declared.DescriptorReading.{DescriptorReading}
+use Rattle.descriptor_layout.specs.declared.DescriptorReading.the-variants.{Refused}
+use Rattle.descriptor_layout.specs.Told.{readSamples}
 use Rattle.descriptor_reader.specs.Header.{zeros, headerRight, colorRight, planesRight}
-use Rattle.descriptor_reader.specs.Reading.{layoutFrom, readSamples, readDescriptor}
+use Rattle.descriptor_reader.specs.Reading.{readDescriptor}
 
 -- the bytes a point are known
 pub planes-bytes : (b : List ℕ) → planesRight b ≡ true → bytesKnown (getD b 20 0) ≡ true
@@ -45,23 +45,8 @@ module _ (b : List ℕ) where
         unfolding readDescriptor
         samples-decide e = sym (pass _ (ap not l) (pass _ (ap not h) (pass _ (ap not c) (pass _ (ap not e) refl))))
 
-module _ (model primaries bytes : ℕ) (s : Samples) where
-  pub refused-5 : samplesRight bytes s ≡ false → Refused 5 ≡ readSamples model primaries bytes s
-  unfolding readSamples
-  refused-5 e = sym (stop _ (ap not e))
-
-  module _ (r : samplesRight bytes s ≡ true) where
-    pub refused-6 : eqb (rangeIn model (s .first .length + 1) s) 0 ≡ true → Refused 6 ≡ readSamples model primaries bytes s
-    unfolding readSamples
-    refused-6 e = sym (pass _ (ap not r) (stop _ e))
-
-    pub accepted : eqb (rangeIn model (s .first .length + 1) s) 0 ≡ false
-        → Accepted (layoutFrom model primaries (rangeIn model (s .first .length + 1) s) bytes s) ≡ readSamples model primaries bytes s
-    unfolding readSamples
-    accepted e = sym (pass _ (ap not r) (pass _ e refl))
-
-    -- the same, of a number and a layout that were worked out
-    pub accepted-as : (range : ℕ) (l : Layout) → range ≡ rangeIn model (s .first .length + 1) s → eqb range 0 ≡ false
-        → l ≡ layoutFrom model primaries range bytes s → Accepted l ≡ readSamples model primaries bytes s
-    accepted-as range l e z q =
-        ap Accepted (q ∙ ap (λ (r : ℕ). layoutFrom model primaries r bytes s) e) ∙ accepted (ap (λ (r : ℕ). eqb r 0) (sym e) ∙ z)
+        -- the same, of samples and an answer that were worked out
+        pub decided-as : planesRight b ≡ true → (s : Samples) (r : DescriptorReading) → s ≡ samplesIn b
+            → r ≡ cond (bytesKnown (getD b 20 0)) (readSamples (getD b 12 0) (getD b 13 0) (getD b 20 0) s) (Refused 4)
+            → r ≡ readDescriptor b
+        decided-as e s r q p = p ∙ stop _ (planes-bytes b e) ∙ ap (readSamples (getD b 12 0) (getD b 13 0) (getD b 20 0)) q ∙ samples-decide e

@@ -1,8 +1,6 @@
 -- The samples that a descriptor's bytes hold: document 01, "Descriptor", samples at 28, 44, 60. Assumes nothing.
 use Prim.Native.Nat.{ℕ, _+_}
-use mathlib.Core.Bool.{cond}
 use mathlib.Core.List.{List}
-use lib.Dec.{eqb}
 use lib.ListN.{getD}
 use Rattle.lists.specs.Bytes.{numberAt}
 use Rattle.descriptor_samples.specs.declared.sample.Sample.{Sample}
@@ -23,10 +21,3 @@ sampleIn b i =
 -- the three samples of a descriptor
 unfoldable pub samplesIn : List ℕ → Samples
 samplesIn b = record { first = sampleIn b 28; second = sampleIn b 44; third = sampleIn b 60 }
-
--- the bit offset of a channel, in the sample that names it
-unfoldable pub offsetIn : Samples → ℕ → ℕ
-offsetIn s channel =
-    cond (eqb (s .first .channel) channel) (s .first .offset)
-    (cond (eqb (s .second .channel) channel) (s .second .offset)
-    (s .third .offset))

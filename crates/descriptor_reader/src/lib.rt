@@ -1,18 +1,13 @@
 // A descriptor read: 76 bytes that tell a layout (document 01, "Descriptor").
 ghost use mathlib.Core.Path.{_≡_};
 ghost use Rattle.descriptor_reader.specs.Reading.{readDescriptor};
+pub use descriptor_layout::DescriptorReading;
+use descriptor_layout::read_samples;
 use descriptor_samples::DESCRIPTOR_SIZE;
-use layout::Layout;
 
 mod header;
 mod number;
 mod sample;
-
-// The layout that a descriptor tells, or the refusal's number.
-pub enum DescriptorReading {
-    Accepted(Layout),
-    Refused(u8),
-}
 
 // The layout that the bytes tell. Refused: 1 to 6, in this order.
 pub fn read(bytes: &[u8]) -> DescriptorReading
@@ -30,5 +25,5 @@ pub fn read(bytes: &[u8]) -> DescriptorReading
     if !header::planes_right(bytes) {
         return DescriptorReading::Refused(refusal::WRONG_PLANES);
     }
-    sample::read_samples(bytes[12], bytes[13], bytes[20], sample::samples_in(bytes))
+    read_samples(bytes[12], bytes[13], bytes[20], sample::samples_in(bytes))
 }

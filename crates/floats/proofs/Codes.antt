@@ -70,27 +70,20 @@ shift false x y d D = ap (λ (z : ℕ). z / d - 4096) (swap x (4096 * d) y) ∙ 
     swap x k y = omega arith
 shift true x y d D = beyond x y d D
 
--- a scale that an f64 has room for, with 40 binary digits of a fraction
-pub record Fine (span base low high : ℕ) : Type 0 where
-  pub some : 0 < span
-  pub span-most : span ≤ 4096
-  pub base-most : base ≤ 4095
-  pub order : low ≤ high
-  pub high-most : high ≤ 4095
-
-module _ (span base low high : ℕ) (k : Fine span base low high) where
+-- spans, bases and ends that an f64 has room for, with 40 binary digits of a fraction
+module _ (span base low high : ℕ) (some : 0 < span) (span-most : span ≤ 4096) (base-most : base ≤ 4095) (order : low ≤ high) (high-most : high ≤ 4095) where
   -- ---- the numbers that the product and the sum are of
   span-value : HasValue (round binary64 false span 1) false span 1
-  span-value = round-whole binary64 false span (le-trans (k .span-most) (lit≤ tt))
+  span-value = round-whole binary64 false span (le-trans span-most (lit≤ tt))
 
   span-positive : T (positive (round binary64 false span 1))
-  span-positive = positive-of-value (round binary64 false span 1) span 1 span-value (k .some)
+  span-positive = positive-of-value (round binary64 false span 1) span 1 span-value some
 
   abbrev b : ℕ
   b = 2 * base + 8193
 
   b-small : b < 2 ^ 53
-  b-small = let h = k .base-most in omega arith
+  b-small = omega arith
 
   b-value : HasValue (round binary64 false b 1) false b 1
   b-value = round-whole binary64 false b (le-of-lt b-small)
@@ -111,7 +104,7 @@ module _ (span base low high : ℕ) (k : Fine span base low high) where
   middle-positive = positive-of-value (middle base) b 2 middle-value (omega arith)
 
   low-most : low ≤ 4095
-  low-most = let h = k .high-most in let g = k .order in omega arith
+  low-most = omega arith
 
   placed-inf : (s : Bool) → placed span base (inf s) ≡ inf s
   placed-inf s = ap (λ (x : Float). add binary64 x (middle base)) (mul-inf s (round binary64 false span 1) span-positive) ∙ add-inf s (middle base) middle-positive
@@ -119,18 +112,18 @@ module _ (span base low high : ℕ) (k : Fine span base low high) where
   -- the code of an infinity is the end of its sign
   pub code-of-inf : (s : Bool) → wholeWithin low high (placed span base (inf s)) ≡ cond s low high
   unfolding wholeWithin
-  code-of-inf true = ap (wholeWithin low high) (placed-inf true) ∙ below-low (inf true) low high (k .order) (k .high-most) (inf-low (end low) (end-positive low low-most))
+  code-of-inf true = ap (wholeWithin low high) (placed-inf true) ∙ below-low (inf true) low high order high-most (inf-low (end low) (end-positive low low-most))
   code-of-inf false =
       ap (wholeWithin low high) (placed-inf false)
-      ∙ ap wholeOf (within-high (end low) (end high) (inf false) (inf-high (end low) (end-positive low low-most)) (inf-high (end high) (end-positive high (k .high-most))))
-      ∙ whole-float high (k .high-most)
+      ∙ ap wholeOf (within-high (end low) (end high) (inf false) (inf-high (end low) (end-positive low low-most)) (inf-high (end high) (end-positive high high-most)))
+      ∙ whole-float high high-most
 
   -- that of the finite value ±m * 2 ^ e
   pub code-of-finite : (s : Bool) (m : ℕ) (e : ℤ) → T (fits binary32 (fin s m e))
       → wholeWithin low high (placed span base (fin s m e)) ≡ bounded low high (signedSum s (2 * (base * down e) + down e) (2 * (span * (m * up e))) / (2 * down e))
   code-of-finite s m e t =
-      rounded-floor (placed span base (fin s m e)) (signedSum s (b * down e) y) (2 * down e) low high c2 (apart s m e b span (odd base) (digits s m e t) (k .span-most)) (k .order) (k .high-most)
-      (summed (mul binary64 (fin s m e) (round binary64 false span 1)) (middle base) s (m * up e * span) (down e) b (down-pos e) (product s m e (round binary64 false span 1) span t span-value (k .span-most)) middle-value)
+      rounded-floor (placed span base (fin s m e)) (signedSum s (b * down e) y) (2 * down e) low high c2 (apart s m e b span (odd base) (digits s m e t) span-most) order high-most
+      (summed (mul binary64 (fin s m e) (round binary64 false span 1)) (middle base) s (m * up e * span) (down e) b (down-pos e) (product s m e (round binary64 false span 1) span t span-value span-most) middle-value)
       ∙ ap (bounded low high)
       (ap₂ (λ (u v : ℕ). signedSum s u v / (2 * down e) - 4096) b-is (ap (λ (x : ℕ). 2 * x) (mul-comm (m * up e) span))
       ∙ shift s (2 * (base * down e) + down e) (2 * (span * (m * up e))) (2 * down e) c2)

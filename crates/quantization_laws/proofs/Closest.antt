@@ -13,8 +13,7 @@ use lib.Ieee.{fin, binary32, up, down, fits}
 use lib.Ieee.Fits.{and-l, and-r}
 use lib.Ieee.Order.{drop, kept}
 use lib.Ieee.Scale.{grid}
-use Rattle.quantization.proofs.Fields.{U}
-use Rattle.quantization_laws.proofs.Units.{Near, unit, unit-pos, reaches, drops, grid-is, kept-near, kept-ge, not-below, not-above}
+use Rattle.quantization_laws.proofs.Units.{U, Near, unit, unit-pos, reaches, drops, grid-is, kept-near, kept-ge, not-below, not-above}
 use Rattle.quantization_laws.proofs.Values.{gap}
 
 -- ---- a value that the format holds is w * 2 ^ j units, with w of 24 digits

@@ -26,8 +26,7 @@ use Rattle.quantization.specs.Value.{fractionOf, valueOf}
 use Rattle.quantization.specs.Code.{signed, exact}
 use Rattle.quantization.proofs.Codes.{Small}
 use Rattle.quantization_laws.specs.Nearest.{distance, Nearer, NearestTo}
-use Rattle.quantization.proofs.Fields.{U}
-use Rattle.quantization_laws.proofs.Units.{round-value}
+use Rattle.quantization_laws.proofs.Units.{U, round-value}
 use Rattle.quantization_laws.proofs.Values.{gap, by-sign, value-rounds}
 use Rattle.quantization_laws.proofs.Closest.{Held, held, Beats, beats, Faces, faces}
 use Rattle.quantization_laws.proofs.Return.{paper}

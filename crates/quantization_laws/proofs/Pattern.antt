@@ -1,18 +1,27 @@
 -- The code of a float is that of the exact value that the paper reads off its bit pattern. Assumes nothing.
-use mathlib.Core.Path.{_≡_, sym, ap, _∙_}
+use mathlib.Core.Path.{_≡_, refl, sym, ap, _∙_}
 use Prim.Native.Nat.{ℕ, zero, suc, _+_, _*_, _^_, _<_}
 use native.Mathlib.Nat.{mul-assoc, mul-left-comm, mul-one, pow-succ'}
-use mathlib.Core.Bool.{Bool}
+use native.Mathlib.Omega.{arith}
+use mathlib.Core.Bool.{Bool, true, false, cond}
+use lib.Dec.{T, eqb, eqb→eq}
 use lib.Pow.{pow-pos}
-use lib.Ieee.{binary32, odd, ofFields, ofBits}
+use lib.Ieee.{nan, inf, binary32, odd, ofFields, ofBits}
 use lib.Ieee.Exact.{odd-sign}
 use Rattle.quantization.specs.declared.scale.Scale.{Scale}
 use Rattle.quantization.specs.declared.code.Coded.the-variants.{Code}
 use Rattle.quantization.specs.Code.{codeOfValue, codeOf}
-use Rattle.quantization.specs.inner.Whole.{wholeCode}
-use Rattle.quantization.proofs.Codes.{code-of-fraction, code-of-value, whole-same}
-use Rattle.quantization.proofs.Fields.{finite}
+use Rattle.quantization.proofs.Codes.{wholeCode, code-of-fraction, code-of-value, whole-same}
 use Rattle.quantization_laws.specs.Pattern.{signBit, fieldOf, digitsOf, byField, patternValue}
+
+-- a field of 1 to 254
+finite : (s : Bool) (t x : ℕ) → suc x < 255 → ofFields binary32 s (suc x) t ≡ odd 24 s (2 ^ 23 + t) x 149
+unfolding ofFields
+finite s t x h = go (eqb (suc x) 255) (eqb→eq (suc x) 255)
+  where
+    go : (b : Bool) → (T b → suc x ≡ 255) → cond b (cond (eqb t 0) (inf s) nan) (odd 24 s (2 ^ 23 + t) x 149) ≡ odd 24 s (2 ^ 23 + t) x 149
+    go true e = let q : suc x ≡ 255 = e tt in absurd (omega arith)
+    go false e = refl
 
 by-field : (sc : Scale) (s : Bool) (x t : ℕ) → x < 255 → codeOf sc (ofFields binary32 s x t) ≡ Code (codeOfValue sc (byField s x t))
 unfolding ofFields

@@ -20,11 +20,10 @@ use Rattle.quantization.specs.declared.code.Coded.the-variants.{Code}
 use Rattle.quantization.specs.Scale.{lowEnd, highEnd, scaleOf}
 use Rattle.quantization.specs.Value.{valueOf}
 use Rattle.quantization.specs.Code.{codeOf}
-use Rattle.quantization.specs.inner.Whole.{signedSum, wholeCode}
-use Rattle.quantization.proofs.Codes.{Small, code-of-value, quotient-is}
+use Rattle.floats.proofs.Sums.{signedSum}
+use Rattle.quantization.proofs.Codes.{Small, wholeCode, code-of-value, quotient-is}
 use Rattle.quantization.proofs.Scales.{scaleBy, by-step, ends}
-use Rattle.quantization.proofs.Fields.{U}
-use Rattle.quantization_laws.proofs.Units.{Near, unit, unit-lt, kept-near, grid-is, round-value}
+use Rattle.quantization_laws.proofs.Units.{U, Near, unit, unit-lt, kept-near, grid-is, round-value}
 use Rattle.quantization_laws.proofs.Values.{gap, value-rounds}
 
 -- within half a code of c

@@ -14,7 +14,10 @@ use lib.Ieee.Exact.{HasValue, units-val}
 use lib.Ieee.Nearest.{closest, nearest-ge}
 use lib.Ieee.Order.{drop, kept}
 use lib.Ieee.Scale.{grid, overflow}
-use Rattle.quantization.proofs.Fields.{U}
+
+-- in units of the smallest float, 2 ^ -149, every finite float is a whole number
+abbrev pub U : ℕ
+U = 2 ^ 149
 
 -- ---- a fraction a / b to the nearest whole number: x, in units of 1 / b, is within a half of a
 unfoldable pub Near : ℕ → ℕ → ℕ → Type 0

@@ -3,9 +3,9 @@
 pub use decoding::DecodedPoint;
 pub use decoding::decode_line;
 pub use decoding::decode_point;
+pub use encoding::encode_line;
+pub use encoding::encode_point;
 pub use line::LineAnswer;
 pub use line::Point;
-pub use packing::encode_line;
-pub use packing::encode_point;
 pub use packing::pack_line;
 pub use unpacking::unpack_line;

@@ -9,7 +9,7 @@ use Rattle.lists.specs.Lists.{every}
 use Rattle.layout.specs.declared.Layout.{Layout}
 use Rattle.layout.specs.Layout.{validLayout}
 use Rattle.line.specs.Line.{codesOf, packedOf, PackedLine, CodeLine}
-use Rattle.packing.proofs.Encodes.{length-quantized, quantized-within}
+use Rattle.encoding.proofs.Encodes.{length-quantized, quantized-within}
 use Rattle.scanline_laws.specs.Claims.{PacksWhatWasUnpacked, PacksBackWhole, UnpacksWhatWasPacked, UnpacksToCodes, PacksToBytes, PacksUnusedBitsAsZero, AcceptsWhatWasUnpacked, AcceptsWhatWasPacked, EncodesToCodes, CountsEmptyLines}
 use Rattle.scanline_laws.proofs.Cleared.{length-codes, codes-small, pack-unpack}
 use Rattle.scanline_laws.proofs.Back.{length-packed, packed-bytes, unpack-pack}

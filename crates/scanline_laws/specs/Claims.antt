@@ -10,7 +10,7 @@ use Rattle.layout.specs.Layout.{validLayout}
 use Rattle.line.specs.declared.LineAnswer.the-variants.{Points}
 use Rattle.line.specs.Line.{codesOf, packedOf, PackedLine, CodeLine}
 use Rattle.line.specs.Answer.{mostPoints, unpackAnswer, packAnswer}
-use Rattle.packing.specs.Encode.{quantizedOf}
+use Rattle.encoding.specs.Encode.{quantizedOf}
 use Rattle.scanline_laws.specs.Cleared.{cleared}
 
 -- packing what was unpacked clears the unused bits and changes nothing else

@@ -95,38 +95,43 @@ shared-slice-read-unknown-2 c = search needs
 unknown-requires : tie.Need-unknown-requires
 unknown-requires c κs = search needs
 
-returns-6 : tie.Need-returns-6
-returns-6 c =
-    let f = c .before .before .before .before in
-    let h = f .before .before .before in
-    let z = h .before .before in
-    let k = z .before .before in
-    let l = k .before .before in
-    refused-10 (given l) (asked l) (long l) (edition k) (some z) (readable h) (front f) (sym (c .before .unknown .ensures) ∙ c .if6 .taken)
-
 end-wrong-requires : tie.Need-end-wrong-requires
 end-wrong-requires c κs = search needs
 
-returns-7 : tie.Need-returns-7
-returns-7 c =
-    let a = c .before .before in
-    let f = a .before .before .before .before in
+returns-6 : tie.Need-returns-6
+returns-6 c =
+    let u = c .before .before in
+    let f = u .before .before .before in
     let h = f .before .before .before in
     let z = h .before .before in
     let k = z .before .before in
     let l = k .before .before in
-    refused-end (given l) (asked l) (long l) (edition k) (some z) (readable h) (front f) (sym (a .before .unknown .ensures) ∙ a .if6 .left) (sym (c .before .end-wrong .ensures) ∙ c .if7 .taken)
+    refused-10 (given l) (asked l) (long l) (edition k) (some z) (readable h) (front f) (sym (u .unknown .ensures) ∙ c .if6 .taken)
+
+returns-7 : tie.Need-returns-7
+returns-7 c =
+    let a = c .before in
+    let w = a .before in
+    let u = w .before in
+    let f = u .before .before .before in
+    let h = f .before .before .before in
+    let z = h .before .before in
+    let k = z .before .before in
+    let l = k .before .before in
+    refused-end (given l) (asked l) (long l) (edition k) (some z) (readable h) (front f) (sym (u .unknown .ensures) ∙ a .if6 .left) (sym (w .end-wrong .ensures) ∙ c .if7 .taken)
 
 returns-8 : tie.Need-returns-8
 returns-8 c =
-    let a = c .before .before in
-    let f = a .before .before .before .before in
+    let a = c .before in
+    let w = a .before in
+    let u = w .before in
+    let f = u .before .before .before in
     let h = f .before .before .before in
     let z = h .before .before in
     let k = z .before .before in
     let l = k .before .before in
     ap Shown (f .before .before .facts-in .ensures)
-    ∙ shown (given l) (asked l) (long l) (edition k) (some z) (readable h) (front f) (sym (a .before .unknown .ensures) ∙ a .if6 .left) (sym (c .before .end-wrong .ensures) ∙ c .if7 .left)
+    ∙ shown (given l) (asked l) (long l) (edition k) (some z) (readable h) (front f) (sym (u .unknown .ensures) ∙ a .if6 .left) (sym (w .end-wrong .ensures) ∙ c .if7 .left)
 
 pub read-spec : {M : Type 1} → statement M
 read-spec =
@@ -145,7 +150,7 @@ read-spec =
     shared-slice-read-unknown
     shared-slice-read-unknown-2
     unknown-requires
-    returns-6
     end-wrong-requires
+    returns-6
     returns-7
     returns-8)

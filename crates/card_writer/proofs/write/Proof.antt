@@ -17,17 +17,24 @@ use Rattle.card_writer.proofs.write.Statement.{statement}
 use Rattle.card_writer.proofs.write.Tie as tie
 
 -- what each row that was passed says
-edition : (c : tie.Else1) → editionKnown (c .before .before .before .before .before .args .edition) ≡ true
-edition c = let k = c .before .before .before .known in sym (k .ensures) ∙ not-false (k .result) (c .if1 .left)
+edition : (c : tie.Else1) → editionKnown (c .before .before .before .args .edition) ≡ true
+edition c = let k = c .before .known in sym (k .ensures) ∙ not-false (k .result) (c .if1 .left)
 
 valid : (c : tie.Else2) → factsValid (c .before .before .before .before .before .before .args .facts) ≡ true
-valid c = let v = c .before .before .before .valid in sym (v .ensures) ∙ not-false (v .result) (c .if2 .left)
+valid c = let v = c .before .before .valid in sym (v .ensures) ∙ not-false (v .result) (c .if2 .left)
 
 writable : (c : tie.Else3) → let a = c .before .before .before .before .before .before .before .args in unwritable (a .edition) (a .facts) ≡ false
-writable c = sym (c .before .before .before .unwritable .ensures) ∙ c .if3 .left
+writable c = sym (c .before .before .unwritable .ensures) ∙ c .if3 .left
 
 known-requires : tie.Need-known-requires
 known-requires c κs = search needs
+
+returns : tie.Need-returns
+returns c =
+    let k = c .before in
+    let a = k .before .before .args in
+    let e = refused-7 (a .edition) (a .facts) (now (a .out)) (sym (k .known .ensures) ∙ not-true (k .known .result) (c .if1 .taken)) in
+    (e, unchanged (a .edition) (a .facts) (now (a .out)) 7 e)
 
 valid-requires : tie.Need-valid-requires
 valid-requires c κs = search needs
@@ -35,27 +42,20 @@ valid-requires c κs = search needs
 unwritable-requires : tie.Need-unwritable-requires
 unwritable-requires c κs = search needs
 
-returns : tie.Need-returns
-returns c =
-    let k = c .before .before .before in
-    let a = k .before .before .args in
-    let e = refused-7 (a .edition) (a .facts) (now (a .out)) (sym (k .known .ensures) ∙ not-true (k .known .result) (c .if1 .taken)) in
-    (e, unchanged (a .edition) (a .facts) (now (a .out)) 7 e)
-
 returns-2 : tie.Need-returns-2
 returns-2 c =
-    let k = c .before in
-    let v = k .before .before in
-    let a = v .before .before .before .args in
+    let v = c .before .before in
+    let k = v .before in
+    let a = k .before .before .before .args in
     let e = refused-9 (a .edition) (a .facts) (now (a .out)) (edition k) (sym (v .valid .ensures) ∙ not-true (v .valid .result) (c .if2 .taken)) in
     (e, unchanged (a .edition) (a .facts) (now (a .out)) 9 e)
 
 returns-3 : tie.Need-returns-3
 returns-3 c =
     let v = c .before in
-    let k = v .before in
-    let u = k .before in
-    let a = u .before .before .before .before .args in
+    let u = v .before in
+    let k = u .before .before in
+    let a = k .before .before .before .args in
     let e = refused-11 (a .edition) (a .facts) (now (a .out)) (edition k) (valid v) (sym (u .unwritable .ensures) ∙ c .if3 .taken) in
     (e, unchanged (a .edition) (a .facts) (now (a .out)) 11 e)
 
@@ -63,8 +63,8 @@ returns-4 : tie.Need-returns-4
 returns-4 c =
     let u = c .before in
     let v = u .before in
-    let k = v .before in
-    let a = k .before .before .before .before .before .args in
+    let k = v .before .before .before in
+    let a = k .before .before .before .args in
     let e = refused-13 (a .edition) (a .facts) (now (a .out)) (edition k) (valid v) (writable u) (ne-eqb (length (now (a .out))) cardSize (c .if4 .taken)) in
     (e, unchanged (a .edition) (a .facts) (now (a .out)) 13 e)
 
@@ -88,8 +88,8 @@ returns-5 c =
     let o = p .before .before .before .before in
     let u = o .before .before in
     let v = u .before in
-    let k = v .before in
-    let a = k .before .before .before .before .before .args in
+    let k = v .before .before .before in
+    let a = k .before .before .before .args in
     let e = done (a .edition) (a .facts) (now (a .out)) (edition k) (valid v) (writable u) (eq-eqb (length (now (a .out))) cardSize (o .before .if4 .left)) in
     let l = ap length (o .of .ensures) ∙ length-card (a .edition) (a .facts) in
     (e, changed (a .edition) (a .facts) (now (a .out)) (p .copy .last .1 .0) e (p .copy .ensures .1 ∙ copied (o .of .result .bytes) (now (a .out)) (o .before .if4 .left ∙ sym l) ∙ o .of .ensures))
@@ -99,9 +99,9 @@ write-spec =
     tie.close
     (tie.spec
     known-requires
+    returns
     valid-requires
     unwritable-requires
-    returns
     returns-2
     returns-3
     returns-4

@@ -1,15 +1,14 @@
 -- `descriptor_reader::read` meets its contract, row by row. Assumes nothing.
-use mathlib.Core.Path.{_≡_, sym, ap, _∙_}
+use mathlib.Core.Path.{_≡_, sym, _∙_}
 use mathlib.Core.Bool.{true}
 use mathlib.Core.List.{List}
 use Prim.Native.Nat.{ℕ}
 use denote.Ref.{now}
 use lib.Dec.{eqb}
-use lib.ListN.{length, getD}
+use lib.ListN.{length}
 use borrow.Author.Tests.{eq-eqb, ne-eqb, not-true, not-false}
 use Rattle.descriptor_reader.specs.Header.{headerRight, colorRight, planesRight}
-use Rattle.descriptor_reader.specs.Reading.{readSamples}
-use Rattle.descriptor_reader.proofs.Answers.{planes-bytes, refused-1, refused-2, refused-3, refused-4, samples-decide}
+use Rattle.descriptor_reader.proofs.Answers.{refused-1, refused-2, refused-3, refused-4, decided-as}
 use borrow.Author.Needs.{needs}
 use Rattle.descriptor_reader.proofs.read.Statement.{statement}
 use Rattle.descriptor_reader.proofs.read.Tie as tie
@@ -73,9 +72,7 @@ samples-in-requires : tie.Need-samples-in-requires
 samples-in-requires c κs = search needs
 
 read-samples-requires : tie.Need-read-samples-requires
-read-samples-requires c κs =
-    let p = c .before .before .before .before in
-    planes-bytes (given (p .before .before .before .before .before .before)) (planes p)
+read-samples-requires c κs = search needs
 
 returns-5 : tie.Need-returns-5
 returns-5 c =
@@ -83,9 +80,7 @@ returns-5 c =
     let k = p .before .before in
     let h = k .before .before in
     let l = h .before .before in
-    let b = given l in
-    c .read-samples .ensures ∙ ap (readSamples (getD b 12 0) (getD b 13 0) (getD b 20 0)) (c .before .samples-in .ensures)
-    ∙ samples-decide b (long l) (header h) (color k) (planes p)
+    decided-as (given l) (long l) (header h) (color k) (planes p) (c .before .samples-in .result) (c .read-samples .result) (c .before .samples-in .ensures) (c .read-samples .ensures)
 
 pub read-spec : {M : Type 1} → statement M
 read-spec =

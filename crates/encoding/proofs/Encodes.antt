@@ -1,0 +1,91 @@
+-- A line of values, quantized: its codes fit the layout, and the test for a number. Assumes nothing.
+use mathlib.Core.Path.{_≡_, refl, sym, ap, _∙_, subst}
+use mathlib.Core.Bool.{Bool, true, false, not, Bool·beq}
+use mathlib.Core.List.{List}
+use Prim.Native.Nat.{ℕ, _+_, _*_, _%_, _^_, _≤_, _<_, max}
+use native.Mathlib.Omega.{arith}
+use borrow.Author.Tests.{eq-eqb, le-leb}
+use lib.Dec.{T, leb}
+use lib.IntN.{ℤ, pos, negsuc}
+use lib.Ieee.{Float, nan, inf, fin, up, down, eq, isNan}
+use lib.ListN.{length, getD}
+use lib.Pow.{pow-pos}
+use Rattle.lists.proofs.Every.{every-at, every-of}
+use Rattle.lists.proofs.Lists.{length-tabulate, getD-tabulate}
+use Rattle.fractions.specs.Fraction.{clamp}
+use Rattle.layout.specs.declared.Layout.{Layout}
+use Rattle.layout.specs.Layout.{topOf, rangeOf, kindOf}
+use Rattle.quantization.specs.declared.scale.Scale.{Scale}
+use Rattle.quantization.specs.Code.{codeOf, codeOr, codeOfValue, unclamped, exact}
+use Rattle.quantization.specs.Answer.{scaleAt}
+use Rattle.quantization.proofs.Scales.{ends, ends-le}
+use Rattle.line.specs.Point.{inPlace}
+use Rattle.line.specs.Line.{joined, codesWithin}
+use Rattle.encoding.specs.Encode.{valueCode, quantizedOf, allNumbers}
+
+-- a float equals itself unless it is a NaN
+same-sign : (s : Bool) → Bool·beq s s ≡ true
+same-sign true = refl
+same-sign false = refl
+
+pub eq-self : (x : Float) → eq x x ≡ not (isNan x)
+unfolding eq isNan
+eq-self nan = refl
+eq-self (inf s) = same-sign s
+eq-self (fin s m e) = rw (eq-eqb (m * up e * down e) (m * up e * down e) refl, same-sign s)
+
+-- a value of a line that was seen to hold numbers alone
+pub number-at : (vs : List Float) (k : ℕ) → allNumbers vs ≡ true → k < length vs → T (not (isNan (getD vs k nan)))
+number-at vs k e h = subst T (sym (every-at (λ v. not (isNan v)) nan vs k e h)) tt
+
+-- a code is at most the higher end
+clamp-le : (low high : ℕ) (z : ℤ) → clamp low high z ≤ max low high
+clamp-le low high (pos n) = omega arith
+clamp-le low high (negsuc n) = omega arith
+
+code-le : (sc : Scale) (v : Float) → codeOr 0 (codeOf sc v) ≤ max (sc .low) (sc .high)
+unfolding codeOf codeOfValue
+code-le sc nan = omega arith
+code-le sc (inf false) = omega arith
+code-le sc (inf true) = omega arith
+code-le sc (fin s m e) = clamp-le (sc .low) (sc .high) (unclamped sc (exact s m e))
+
+pub code-small : (l : Layout) (j : ℕ) (v : Float) → codeOr 0 (codeOf (scaleAt l j) v) < 2 ^ l .depth
+code-small l j v =
+    let n = l .depth in
+    let r = rangeOf (l .range) in
+    let e = ends r (kindOf (l .model) j) n in
+    omega (arith, ends-le r n, code-le (scaleAt l j) v, pow-pos n)
+
+module _ (l : Layout) (vs : List Float) where
+  pub length-quantized : length (quantizedOf l vs) ≡ length vs
+  unfolding quantizedOf
+  length-quantized = length-tabulate (length vs) (valueCode l vs)
+
+  -- code 3 i + j is that of channel j of point i
+  pub quantized-at : (i j : ℕ) → j < 3 → 3 * i + j < length vs → getD (quantizedOf l vs) (3 * i + j) 0 ≡ codeOr 0 (codeOf (scaleAt l j) (getD vs (3 * i + j) nan))
+  unfolding quantizedOf valueCode
+  quantized-at i j h k =
+      let e : (3 * i + j) % 3 ≡ j = omega arith in
+      getD-tabulate (length vs) (valueCode l vs) (3 * i + j) 0 k ∙ ap (λ (c : ℕ). codeOr 0 (codeOf (scaleAt l c) (getD vs (3 * i + j) nan))) e
+
+  -- every code is one of the depth
+  pub quantized-within : codesWithin (l .depth) (quantizedOf l vs) ≡ true
+  unfolding quantizedOf valueCode
+  quantized-within = every-of (λ c. leb c (topOf (l .depth))) 0 (quantizedOf l vs) (λ k h.
+      let e = getD-tabulate (length vs) (valueCode l vs) k 0 (omega (arith, length-quantized)) in
+      le-leb (getD (quantizedOf l vs) k 0) (topOf (l .depth)) (omega (arith, e, code-small l (k % 3) (getD vs k nan))))
+
+  -- a code worked out on channel j's scale fits, and it is the line's
+  pub placed : (i j : ℕ) (sc : Scale) (c : ℕ) → sc ≡ scaleAt l j → j < 3 → 3 * i + j < length vs
+      → c ≡ codeOr 0 (codeOf sc (getD vs (3 * i + j) nan)) → (c < 2 ^ l .depth) × (c ≡ getD (quantizedOf l vs) (3 * i + j) 0)
+  placed i j sc c f h k e =
+      let v = getD vs (3 * i + j) nan in
+      let d = e ∙ ap (λ (x : Scale). codeOr 0 (codeOf x v)) f in
+      (omega (arith, d, code-small l j v), d ∙ sym (quantized-at i j h k))
+
+-- a point's number, by its codes
+pub joined-by : (l : Layout) (cs : List ℕ) (i : ℕ) {a b c : ℕ} → a ≡ getD cs (3 * i) 0 → b ≡ getD cs (3 * i + 1) 0 → c ≡ getD cs (3 * i + 2) 0
+    → inPlace l a b c ≡ joined l cs i
+unfolding joined
+joined-by l cs i {a} {b} {c} p q r = rw (p, q, r)

@@ -1,0 +1,27 @@
+-- `encoding::code_of` meets its contract: f64 has the code of a number. Assumes nothing.
+use borrow.Author.Needs.{needs}
+use mathlib.Core.Path.{sym, ap, _∙_, subst}
+use lib.Dec.{T}
+use lib.Ieee.{binary32, fits}
+use Rattle.quantization.specs.Code.{codeOr}
+use Rattle.quantization.proofs.Codes.{float-code}
+use Rattle.encoding.proofs.encode.code_of.Statement.{statement}
+use Rattle.encoding.proofs.encode.code_of.Tie as tie
+
+-- the parameter is a value of its type
+held : (s : tie.Start) → T (fits binary32 (s .args .value))
+held s = subst T (sym (s .good .1 .0 .1)) tt
+
+float-to-float-code : tie.Need-float-to-float-code
+float-to-float-code c = search needs
+
+code-requires : tie.Need-code-requires
+code-requires c κs = search needs
+
+returns : tie.Need-returns
+returns c =
+    let s = c .before .before in
+    c .code .ensures ∙ ap (codeOr 0) (float-code (s .args .scale) (s .pre .0) (s .args .value) (held s) (s .pre .1))
+
+pub code-of-spec : {M : Type 1} → statement M
+code-of-spec = tie.close (tie.spec float-to-float-code code-requires returns)
