@@ -1,14 +1,14 @@
 // All points of a line, eight at a turn: side by side they are worked out four times as fast as one by one.
 ghost use mathlib.Core.Path.{_≡_};
-ghost use Prim.Native.Nat.{_+_, _*_, _≤_, _<_};
+ghost use Prim.Native.Nat.{_+_, _*_, _≤_};
 ghost use lib.ListN.{length};
 ghost use Rattle.lists.specs.Lists.{tabulate};
 ghost use Rattle.color_equations.specs.Line.{convertedOf};
 ghost use Rattle.color_line.specs.inner.Rows.{rowsCode, pointOf};
 use crate::row::FloatRows;
 use crate::row::point;
-use crate::store::store3;
 use crate::store::store_eight;
+use crate::store::store3;
 
 // The codes of point i.
 fn point_at(rows: FloatRows, codes: &[u16], i: usize) -> u64
@@ -45,22 +45,15 @@ fn few(rows: FloatRows, codes: &[u16], out: &mut [u16], n: usize)
     }
 }
 
-// Where a turn starts once so many points are done: after them, or at the last eight points.
-fn turn_at(done: usize, n: usize) -> usize
-    requires { ⌜ (8 ≤ n) × (done < n) ⌝ }
-    ensures { λ r. ⌜ (r ≤ done) × (r + 8 ≤ n) × (done < r + 8) ⌝ }
-{
-    if n - done < 8 { n - 8 } else { done }
-}
-
-// The others. The last turn takes the last eight points, some of which may be done already: they come out the same.
+// A line of eight points or more. The last turn takes the last eight points, some of which may be done already: they come
+// out the same.
 fn many(rows: FloatRows, codes: &[u16], out: &mut [u16], n: usize)
     requires { ⌜ (8 ≤ n) × (length (now codes) ≡ 3 * n) × (length (now out) ≡ 3 * n) ⌝ }
     ensures { λ _. ⌜ now (out .exit) ≡ convertedOf (rowsCode rows) (now (codes .entry)) ⌝ }
 {
     let mut done = 0;
     while done < n {
-        let i = turn_at(done, n);
+        let i = line::run_from(done, n);
         let v = eight_at(rows, codes, i);
         store_eight(v, out, i);
         done = i + 8;

@@ -1,8 +1,7 @@
 -- How large the numbers of a row can be: an f64 holds them all. Assumes nothing.
-use mathlib.Core.Path.{_≡_, refl, sym, ap, _∙_}
-use mathlib.Core.Bool.{Bool, true, _&&_}
+use mathlib.Core.Path.{_≡_, sym, ap, _∙_}
 use Prim.Native.Nat.{ℕ, _+_, _-_, _*_, _^_, _≤_, _<_}
-use native.Mathlib.Nat.{le-trans, le-of-eq, mul-le-mul, mul-le-mul-left, mul-one, mul-pos, mul-add, add-mul, mul-assoc}
+use native.Mathlib.Nat.{le-trans, le-of-eq, mul-le-mul, mul-le-mul-left, mul-one, mul-pos, mul-add, add-mul}
 use native.Mathlib.Omega.{arith}
 use lib.Dec.{T, lit≤, lit<, le→leb}
 use lib.IntN.{pos}

@@ -67,15 +67,9 @@ pub(crate) fn ratio_of(range: Range, depth: Depth) -> Ratio
     ensures { λ r. ⌜ r ≡ ratioOf range depth ⌝ }
 {
     match range {
-        Range::Narrow => Ratio {
-            span: 73,
-            whole: 7,
-        },
+        Range::Narrow => Ratio { span: 73, whole: 7 },
         Range::Full => match depth {
-            Depth::Eight => Ratio {
-                span: 85,
-                whole: 7,
-            },
+            Depth::Eight => Ratio { span: 85, whole: 7 },
             Depth::Ten => Ratio {
                 span: 341,
                 whole: 28,

@@ -134,7 +134,11 @@ fn green_row(numbers: Numbers, spread: Spread, out: Scale) -> FloatRow
     match from {
         Range::Narrow => {
             let ratio = ratio_of(to, depth);
-            float_row(green_of_narrow(numbers.green, spread, ratio), ratio.span, out)
+            float_row(
+                green_of_narrow(numbers.green, spread, ratio),
+                ratio.span,
+                out,
+            )
         }
         Range::Full => float_row(green_of_full(numbers.weights, spread), out.span as u64, out),
     }

@@ -1,6 +1,5 @@
 -- The claims of specs/Claims.antt. Assumes nothing.
-use mathlib.Core.Path.{_≡_, sym, _∙_, subst}
-use mathlib.Core.Bool.{true}
+use mathlib.Core.Path.{_≡_, _∙_}
 use Prim.Native.Nat.{ℕ, _≤_}
 use Rattle.layout.specs.declared.range.Range.{Range}
 use Rattle.layout.specs.declared.range.Range.the-variants.{Narrow, Full}
@@ -9,22 +8,20 @@ use Rattle.layout.specs.Layout.{bitsOf, topOf}
 use Rattle.layout.proofs.Depths.{Steps, depth-steps, known-bits}
 use Rattle.quantization.specs.declared.scale.Scale.{Scale}
 use Rattle.quantization.specs.Scale.{scaleOf}
-use Rattle.color_equations.specs.Conversion.{pick, ycbcrOf, rgbOf}
+use Rattle.color_equations.specs.Conversion.{ycbcrOf, rgbOf}
+use Rattle.color_equations.proofs.Channels.{ycbcr-by, rgb-by}
 use Rattle.color_line.specs.inner.Rows.{rowCode, rowsCode}
 use Rattle.color_rows.specs.declared.linear.Row.{Row}
 use Rattle.color_rows.specs.declared.numbers.Numbers.{Numbers}
 use Rattle.color_rows.specs.inner.Known.{numbersOf}
-use Rattle.color_rows.specs.inner.Rows.{wholeAt, codeRow, floatsOf, spreadOf, greenValue, greenRow, greenRowFrom, ycbcrRows, rgbRows}
+use Rattle.color_rows.specs.inner.Rows.{wholeAt, codeRow, floatsOf, spreadOf, greenValue, greenRowFrom, ycbcrRows, rgbRows}
 use Rattle.color_rows.specs.inner.Sizes.{Fits, SmallNumbers}
-use Rattle.color_rows.proofs.Known.{Passed, passed, numbers-small}
+use Rattle.color_rows.proofs.Known.{passed, numbers-small}
 use Rattle.color_rows.proofs.Sizes.{top-least, top-most, luma-row-fits, cb-row-fits, cr-row-fits, red-row-fits, green-row-fits, blue-row-fits}
 use Rattle.color_rows_laws.specs.Claims.{ToYcbcrExact, ToRgbExact}
 use Rattle.color_rows_laws.proofs.Quotients.{row-is}
 use Rattle.color_rows_laws.proofs.Lowest.{Right, terms-right, lowest-whole}
 use Rattle.color_rows_laws.proofs.Equations.{luma-row, cb-row, cr-row, red-row, green-row, blue-row}
-
-pick-same : (j : ℕ) {a b c x y z : ℕ} → a ≡ x → b ≡ y → c ≡ z → pick j a b c ≡ pick j x y z
-pick-same j e f g = λ i. pick j (e i) (f i) (g i)
 
 module _ (m : Numbers) (h : SmallNumbers m) (x y z : ℕ) where
   abbrev n : ℕ
@@ -38,9 +35,9 @@ module _ (m : Numbers) (h : SmallNumbers m) (x y z : ℕ) where
     in-floats r f = row-is r (topOf n) x y z f (top-least n steps) (top-most n steps) hx hy hz
 
     ycbcr-exact : (j : ℕ) → rowsCode (ycbcrRows m) x y z j ≡ ycbcrOf (m .weights) n (m .from) (m .to) x y z j
-    unfolding rowsCode ycbcrRows ycbcrOf
+    unfolding rowsCode ycbcrRows
     ycbcr-exact j =
-        pick-same j
+        ycbcr-by (m .weights) n (m .from) (m .to) j x y z
         (in-floats _ (luma-row-fits m h) ∙ luma-row (m .weights) n (m .from) (h .weights) steps (scaleOf (m .to) n Brightness) x y z)
         (in-floats _ (cb-row-fits m h) ∙ cb-row (m .weights) n (m .from) (h .weights) steps (scaleOf (m .to) n Difference) x y z)
         (in-floats _ (cr-row-fits m h) ∙ cr-row (m .weights) n (m .from) (h .weights) steps (scaleOf (m .to) n Difference) x y z)
@@ -55,9 +52,9 @@ module _ (m : Numbers) (h : SmallNumbers m) (x y z : ℕ) where
     green-whole r Full = λ i. wholeAt (codeRow (greenValue (m .weights) (spreadOf Full n)) out) x y z
 
     rgb-exact : Right (m .weights) (m .green) → (j : ℕ) → rowsCode (rgbRows m) x y z j ≡ rgbOf (m .weights) n (m .from) (m .to) x y z j
-    unfolding rowsCode rgbRows rgbOf
+    unfolding rowsCode rgbRows
     rgb-exact r j =
-        pick-same j
+        rgb-by (m .weights) n (m .from) (m .to) j x y z
         (in-floats _ (red-row-fits m h) ∙ red-row (m .weights) n (m .from) (h .weights) steps out x y z)
         (in-floats _ (green-row-fits m h) ∙ green-whole r (m .from) ∙ green-row (m .weights) n (m .from) (h .weights) steps out x y z)
         (in-floats _ (blue-row-fits m h) ∙ blue-row (m .weights) n (m .from) (h .weights) steps out x y z)

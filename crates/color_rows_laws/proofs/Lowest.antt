@@ -16,7 +16,6 @@ use Rattle.layout.specs.declared.depth.Depth.the-variants.{Eight, Ten, Twelve}
 use Rattle.layout.specs.declared.kind.Kind.the-variants.{Brightness}
 use Rattle.layout.specs.Layout.{primariesKnown, bitsOf, stepOf}
 use Rattle.layout.proofs.Depths.{depth-steps}
-use Rattle.fractions.specs.Fraction.{bounded}
 use Rattle.quantization.specs.declared.scale.Scale.{Scale}
 use Rattle.quantization.specs.Scale.{scaleOf}
 use Rattle.color_equations.specs.declared.weights.Weights.{Weights}
@@ -24,7 +23,6 @@ use Rattle.color_equations.specs.Weights.{weightsOf, greenOf}
 use Rattle.color_equations.proofs.Table.{each-known}
 use Rattle.color_rows.specs.declared.green.GreenTerms.{GreenTerms}
 use Rattle.color_rows.specs.declared.green.Ratio.{Ratio}
-use Rattle.color_rows.specs.declared.linear.Linear.{Linear}
 use Rattle.color_rows.specs.declared.linear.Row.{Row}
 use Rattle.color_rows.specs.inner.Green.{greenTerms, ratioOf, narrowGreenValue}
 use Rattle.color_rows.specs.inner.Rows.{plusAt, minusAt, wholeAt, codedOf, codeRow, spreadOf, greenValue}

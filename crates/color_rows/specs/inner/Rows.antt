@@ -4,7 +4,6 @@ use lib.IntN.{pos, _-ℤ_}
 use lib.Ieee.{Float, binary64, ofInt}
 use Rattle.layout.specs.declared.range.Range.{Range}
 use Rattle.layout.specs.declared.range.Range.the-variants.{Narrow, Full}
-use Rattle.layout.specs.declared.depth.Depth.{Depth}
 use Rattle.layout.specs.declared.kind.Kind.the-variants.{Brightness, Difference}
 use Rattle.layout.specs.Layout.{bitsOf, stepOf, topOf}
 use Rattle.fractions.specs.Fraction.{bounded}

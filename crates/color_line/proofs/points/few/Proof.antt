@@ -1,7 +1,7 @@
 -- `color_line::few` meets its contract: each turn fills in one point. Assumes nothing.
 use Prim.Native.Nat.{_*_, _-_, _≤_}
 use native.Mathlib.Omega.{arith}
-use mathlib.Core.Path.{_≡_, sym, _∙_}
+use mathlib.Core.Path.{_≡_}
 use lib.ListN.{length}
 use Rattle.lists.proofs.Filled.{Filled, filled-none}
 use Rattle.color_equations.specs.Line.{convertedAt}

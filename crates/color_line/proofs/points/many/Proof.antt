@@ -1,5 +1,5 @@
 -- `color_line::many` meets its contract: each turn fills in eight points, and the last turn the last eight. Assumes nothing.
-use Prim.Native.Nat.{_+_, _*_, _-_, _≤_}
+use Prim.Native.Nat.{_*_, _-_, _≤_}
 use native.Mathlib.Omega.{arith}
 use Rattle.lists.proofs.Filled.{Filled, filled-none}
 use Rattle.color_equations.specs.Line.{convertedAt}
@@ -18,27 +18,27 @@ abbrev μ-loop : tie.MeasureT-loop
 loop-holds : tie.Need-loop-holds Inv-loop μ-loop
 loop-holds c = (omega arith, filled-none)
 
-turn-at-requires : tie.Need-turn-at-requires Inv-loop μ-loop
-turn-at-requires c κs = (c .before .before .before .before .pre .0, omega arith)
+run-from-requires : tie.Need-run-from-requires Inv-loop μ-loop
+run-from-requires c κs = omega arith
 
 eight-at-requires : tie.Need-eight-at-requires Inv-loop μ-loop
-eight-at-requires c κs = let s = c .before .before .before .before .before in omega (arith, s .pre .1, c .turn-at .ensures .1)
+eight-at-requires c κs = let s = c .before .before .before .before .before in omega (arith, s .pre .1, s .pre .0, c .run-from .ensures)
 
 store-eight-requires : tie.Need-store-eight-requires Inv-loop μ-loop
-store-eight-requires c κs = let s = c .before .before .before .before .before .before .before in let l = c .before .before .before .before .loop in omega (arith, l .inv .1 .long, s .pre .2, c .before .before .turn-at .ensures .1)
+store-eight-requires c κs = let s = c .before .before .before .before .before .before .before in let l = c .before .before .before .before .loop in omega (arith, l .inv .1 .long, s .pre .2, s .pre .0, c .before .before .run-from .ensures)
 
 add-done : tie.Need-add-done Inv-loop μ-loop
-add-done c = let s = c .before .before .before .before .before .before .before .before .before .before in omega (arith, c .before .before .before .before .before .turn-at .ensures .1)
+add-done c = let s = c .before .before .before .before .before .before .before .before .before .before in omega (arith, s .pre .0, c .before .before .before .before .before .run-from .ensures)
 
 loop-less : tie.Need-loop-less Inv-loop μ-loop
-loop-less c = let s = c .before .before .before .before .before .before .before .before .before .before in let t = c .before .before .before .before .before .turn-at .ensures in omega (arith, t .1, t .2)
+loop-less c = let s = c .before .before .before .before .before .before .before .before .before .before in omega (arith, s .pre .0, c .before .before .before .before .before .run-from .ensures)
 
 loop-again : tie.Need-loop-again Inv-loop μ-loop
 loop-again c =
     let s = c .before .before .before .before .before .before .before .before .before .before in
     let l = c .before .before .before .before .before .before .before .loop in
-    let t = c .before .before .before .before .before .turn-at in
-    (omega (arith, t .ensures .1), turn-filled (s .args .rows) (s .args .codes .now) (t .result) (s .args .out .now) (l .out) _ _ (omega (arith, s .pre .2, t .ensures .1)) (c .before .before .before .before .eight-at .ensures) (filled-less (3 * t .result) (omega (arith, t .ensures .0)) (l .inv .1)) (c .before .before .store-eight .ensures))
+    let t = c .before .before .before .before .before .run-from in
+    (omega (arith, s .pre .0, t .ensures), turn-filled (s .args .rows) (s .args .codes .now) (t .result) (s .args .out .now) (l .out) _ _ (omega (arith, s .pre .0, s .pre .2, t .ensures)) (c .before .before .before .before .eight-at .ensures) (filled-less (3 * t .result) (omega (arith, t .ensures)) (l .inv .1)) (c .before .before .store-eight .ensures))
 
 same-length : tie.Need-same-length Inv-loop μ-loop
 same-length c = c .before .loop .inv .1 .long
@@ -56,7 +56,7 @@ many-spec =
     Inv-loop
     μ-loop
     loop-holds
-    turn-at-requires
+    run-from-requires
     eight-at-requires
     store-eight-requires
     add-done

@@ -1,7 +1,6 @@
 -- `color_rows::numbers_of` meets its contract, test by test. Assumes nothing.
 use borrow.Author.Needs.{needs}
-use mathlib.Core.Path.{_≡_, sym, ap, _∙_}
-use mathlib.Core.Bool.{true}
+use mathlib.Core.Path.{sym, _∙_}
 use Rattle.layout.specs.Layout.{primariesKnown, depthKnown, rangeKnown}
 use Rattle.layout.proofs.Known.{range-told, range-unknown, depth-told, depth-unknown}
 use Rattle.color_equations.proofs.Known.{weights-told, weights-unknown}

@@ -1,6 +1,6 @@
 -- `color_rows::green_row` meets its contract, out of either range. Assumes nothing.
 use borrow.Author.Needs.{needs}
-use mathlib.Core.Path.{_≡_, sym, ap, _∙_, subst}
+use mathlib.Core.Path.{sym, ap, _∙_, subst}
 use Rattle.layout.specs.declared.range.Range.{Range}
 use Rattle.layout.specs.Layout.{bitsOf}
 use Rattle.layout.proofs.Depths.{depth-steps}
