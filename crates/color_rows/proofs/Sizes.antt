@@ -80,13 +80,13 @@ small r top t f =
 
 pub difference-small : (r : Range) (n : ℕ) → Steps n → SmallScale (scaleOf r n Difference) 2048
 unfolding scaleOf
-difference-small Narrow n s = record { some = omega (arith, s); span = omega (arith, s); base = omega (arith, s); ends = omega arith; high = omega (arith, s) }
-difference-small Full n s = record { some = omega (arith, s); span = omega (arith, s); base = omega (arith, s); ends = omega arith; high = omega (arith, s) }
+difference-small Narrow n s = record { some = omega (arith, s); span = omega (arith, s); base = omega (arith, s); ends = omega (arith, s); high = omega (arith, s) }
+difference-small Full n s = record { some = omega (arith, s); span = omega (arith, s); base = omega (arith, s); ends = omega (arith, s); high = omega (arith, s) }
 
 pub brightness-small : (r : Range) (n : ℕ) → Steps n → SmallScale (scaleOf r n Brightness) 256
 unfolding scaleOf
-brightness-small Narrow n s = record { some = omega (arith, s); span = omega (arith, s); base = omega (arith, s); ends = omega arith; high = omega (arith, s) }
-brightness-small Full n s = record { some = omega (arith, s); span = omega (arith, s); base = omega arith; ends = omega arith; high = omega (arith, s) }
+brightness-small Narrow n s = record { some = omega (arith, s); span = omega (arith, s); base = omega (arith, s); ends = omega (arith, s); high = omega (arith, s) }
+brightness-small Full n s = record { some = omega (arith, s); span = omega (arith, s); base = omega arith; ends = omega (arith, s); high = omega (arith, s) }
 
 pub spread-small : (r : Range) (n : ℕ) → Steps n → SmallSpread (spreadOf r n)
 spread-small Narrow n s = record { luma = lit≤ tt; chroma = lit≤ tt; some = omega (arith, s); whole = omega (arith, s); black = omega (arith, s); neutral = omega (arith, s) }
