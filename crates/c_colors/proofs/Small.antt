@@ -8,7 +8,7 @@ use Rattle.refusal.specs.Refusal.{codeTooHigh}
 use Rattle.line.specs.declared.LineAnswer.the-variants.{Points}
 use Rattle.line.specs.Line.{codesWithin}
 use Rattle.line.specs.Answer.{fitting}
-use Rattle.color_model.specs.Line.{convertible, conversionAnswer}
+use Rattle.color_equations.specs.Line.{convertible, conversionAnswer}
 use Rattle.c_types.proofs.Lines.{smallLine, three, count}
 
 pub conversion-small : (p d f t : ℕ) (cs : List ℕ) (output : ℕ) → smallLine (conversionAnswer p d f t cs output) ≡ true

@@ -1,7 +1,7 @@
 // The C interface of colors: include/imurraqi.h declares the same functions.
 ghost use mathlib.Core.Path.{_≡_};
 ghost use lib.ListN.{length};
-ghost use Rattle.color_model.specs.Line.{conversionAnswer, toYcbcrOutput, toRgbOutput};
+ghost use Rattle.color_equations.specs.Line.{conversionAnswer, toYcbcrOutput, toRgbOutput};
 ghost use Rattle.c_types.specs.Numbers.{lineNumber};
 use c_types::line_number;
 

@@ -1,6 +1,1 @@
-pub mod Table
-mod Sizes
-pub mod Whole
-mod Lines
-mod Rows
 mod Answers

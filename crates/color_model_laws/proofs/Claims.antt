@@ -7,12 +7,12 @@ use borrow.Author.Tests.{leb-true, eqb-true}
 use lib.Dec.{leb, eqb}
 use Rattle.lists.specs.Lists.{every}
 use Rattle.lists.proofs.Tests.{and-left, and-right, and3, pass}
-use Rattle.color_model.specs.declared.weights.Weights.{Weights}
-use Rattle.color_model.specs.Weights.{weightRows, weightsOf, greenOf}
-use Rattle.color_model.specs.Equations.{lumaOf, chromaOf, primaryOf, greenFrom}
-use Rattle.color_model.specs.Line.{conversionAnswer}
-use Rattle.color_model.proofs.Table.{each-row}
-use Rattle.color_model.proofs.Whole.{luma-den, chroma-den, primary-den, green-den}
+use Rattle.color_equations.specs.declared.weights.Weights.{Weights}
+use Rattle.color_equations.specs.Weights.{weightRows, weightsOf, greenOf}
+use Rattle.color_equations.specs.Equations.{lumaOf, chromaOf, primaryOf, greenFrom}
+use Rattle.color_equations.specs.Line.{conversionAnswer}
+use Rattle.color_equations.proofs.Table.{each-row}
+use Rattle.color_equations.proofs.Whole.{luma-den, chroma-den, primary-den, green-den}
 use Rattle.color_model_laws.specs.Claims.{RowsRight, Inverts, InvertsBack, CountsEmptyLines, MarkedRight}
 use Rattle.color_model_laws.specs.Marked.{marked, given, stated}
 use Rattle.color_model_laws.proofs.Inverse.{rgb-back, ycbcr-back}

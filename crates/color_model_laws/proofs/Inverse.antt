@@ -5,10 +5,10 @@ use native.Mathlib.Nat.{mul-pos}
 use native.Mathlib.Omega.{arith}
 use Rattle.fractions.specs.Fraction.{Fraction, Same}
 use Rattle.fractions.proofs.Same.{Is, is-cut, is-times, is-within, same-by}
-use Rattle.color_model.specs.declared.weights.Weights.{Weights}
-use Rattle.color_model.specs.Weights.{greenOf}
-use Rattle.color_model.specs.Equations.{lumaOf, chromaOf, primaryOf, greenFrom}
-use Rattle.color_model.proofs.Whole.{luma-is, chroma-is, primary-is, green-is}
+use Rattle.color_equations.specs.declared.weights.Weights.{Weights}
+use Rattle.color_equations.specs.Weights.{greenOf}
+use Rattle.color_equations.specs.Equations.{lumaOf, chromaOf, primaryOf, greenFrom}
+use Rattle.color_equations.proofs.Whole.{luma-is, chroma-is, primary-is, green-is}
 
 -- ---- a primary x and luma y, by the weight k
 module _ (k : ℕ) (K : k < 10000) {x y : Fraction} {p n q m c : ℕ} (h : Is x p n c) (i : Is y q m c) where

@@ -6,10 +6,10 @@ use mathlib.Core.List.{[], map}
 use Rattle.fractions.specs.Fraction.{Fraction, Same}
 use Rattle.layout.specs.Layout.{primariesKnown}
 use Rattle.line.specs.declared.LineAnswer.the-variants.{Points}
-use Rattle.color_model.specs.declared.weights.Weights.{Weights}
-use Rattle.color_model.specs.Weights.{weightsOf, greenOf}
-use Rattle.color_model.specs.Equations.{lumaOf, chromaOf, primaryOf, greenFrom}
-use Rattle.color_model.specs.Line.{convertible, conversionAnswer}
+use Rattle.color_equations.specs.declared.weights.Weights.{Weights}
+use Rattle.color_equations.specs.Weights.{weightsOf, greenOf}
+use Rattle.color_equations.specs.Equations.{lumaOf, chromaOf, primaryOf, greenFrom}
+use Rattle.color_equations.specs.Line.{convertible, conversionAnswer}
 use Rattle.color_model_laws.specs.Marked.{marked, given, stated}
 
 -- three weights above 0, and together they are 1

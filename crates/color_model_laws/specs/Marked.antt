@@ -12,9 +12,9 @@ use Rattle.quantization.specs.declared.code.Coded.{Coded}
 use Rattle.quantization.specs.declared.code.Coded.the-variants.{Code}
 use Rattle.quantization.specs.Scale.{scaleOf}
 use Rattle.quantization.specs.Code.{codeOfValue, codeOf}
-use Rattle.color_model.specs.Weights.{weightsOf}
-use Rattle.color_model.specs.Equations.{lumaOf, chromaOf, primaryOf, greenFrom}
-use Rattle.color_model.specs.Conversion.{ycbcrOf, rgbOf}
+use Rattle.color_equations.specs.Weights.{weightsOf}
+use Rattle.color_equations.specs.Equations.{lumaOf, chromaOf, primaryOf, greenFrom}
+use Rattle.color_equations.specs.Conversion.{ycbcrOf, rgbOf}
 
 -- three codes of a point
 pub data Codes : Type 0 where

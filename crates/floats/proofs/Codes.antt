@@ -13,7 +13,7 @@ use lib.Ieee.Exact.{HasValue, round-exact}
 use lib.Ieee.Back.{round-whole}
 use lib.Ieee.Positive.{positive, positive-of-value, mul-at}
 use Rattle.fractions.specs.Fraction.{bounded}
-use Rattle.floats.specs.Floor.{wholeOf, end, wholeWithin}
+use Rattle.floats.specs.inner.Floor.{wholeOf, end, wholeWithin}
 use Rattle.floats.proofs.Compared.{within-high}
 use Rattle.floats.proofs.Floors.{end-positive, whole-float, below-low, rounded-floor, beyond, more}
 use Rattle.floats.proofs.Products.{digits, product}

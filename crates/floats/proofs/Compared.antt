@@ -12,7 +12,7 @@ use lib.Ieee.{Float, nan, inf, fin, Format, prec, low, up, down, minus, lt, le, 
 use lib.Ieee.Fits.{round-is, up-pos, down-pos}
 use lib.Ieee.Positive.{positive}
 use lib.Ieee.Order.{drop, kept}
-use Rattle.floats.specs.Floor.{within}
+use Rattle.floats.specs.inner.Floor.{within}
 
 one-way : (a b : ℕ) → ltb a b ≡ true → ltb b a ≡ false
 one-way a b e = le-ltb b a (le-of-lt (ltb-true a b e))

@@ -14,7 +14,7 @@ use lib.Ieee.Back.{round-whole}
 use lib.Ieee.Order.{round-mono}
 use lib.Ieee.Positive.{num, den, den-pos, positive, positive-of-value, own-value, value→cross, values-of-le, between}
 use Rattle.fractions.specs.Fraction.{bounded}
-use Rattle.floats.specs.Floor.{within, wholeOf, end, wholeWithin}
+use Rattle.floats.specs.inner.Floor.{within, wholeOf, end, wholeWithin}
 use Rattle.floats.proofs.Compared.{lt-le, not-lt, lt-not, round-plain, within-low, within-high, within-same}
 use Rattle.floats.proofs.Pattern.{whole-is}
 

@@ -10,7 +10,7 @@ use lib.Ieee.{Float, nan, inf, fin, up, down, size}
 use lib.Ieee.Digits.{size-lt, size-le}
 use lib.Ieee.Fits.{down-pos}
 use lib.Ieee.Positive.{num, den, positive}
-use Rattle.floats.specs.Floor.{wholeOf}
+use Rattle.floats.specs.inner.Floor.{wholeOf}
 
 size-gt : (n j : ℕ) → 2 ^ j ≤ n → j < size n
 size-gt n j h = lt-of-not-le (λ (g : size n ≤ j). not-le-of-lt (lt-of-lt-of-le (size-lt n) (pow-mono g)) h)

@@ -3,7 +3,7 @@ ghost use mathlib.Core.Path.{_≡_};
 ghost use mathlib.Core.Bool.{not, cond};
 ghost use lib.Dec.{T};
 ghost use lib.Ieee.{isNan, lt};
-ghost use Rattle.floats.specs.Floor.{wholeOf, wholeWithin};
+ghost use Rattle.floats.specs.inner.Floor.{wholeOf, wholeWithin};
 
 // The larger of t and low: low where t is a NaN. (The comparison is the machine's maximum as it stands, as that below is
 // its minimum.)

@@ -9,5 +9,6 @@ pub fn join(layout: Layout, a: u16, b: u16, c: u16) -> u64
     ensures { λ r. ⌜ r ≡ joinedBits layout a b c ⌝ }
 {
     ((a as u64) << (layout.offset0 % 64) as u64)
-        | (((b as u64) << (layout.offset1 % 64) as u64) | ((c as u64) << (layout.offset2 % 64) as u64))
+        | (((b as u64) << (layout.offset1 % 64) as u64)
+            | ((c as u64) << (layout.offset2 % 64) as u64))
 }

@@ -1,7 +1,7 @@
 -- `floats::whole` meets its contract. Assumes nothing.
 use borrow.Author.Needs.{needs}
 use mathlib.Core.Path.{refl}
-use Rattle.floats.specs.Floor.{wholeOf}
+use Rattle.floats.specs.inner.Floor.{wholeOf}
 use Rattle.floats.proofs.whole.Statement.{statement}
 use Rattle.floats.proofs.whole.Tie as tie
 

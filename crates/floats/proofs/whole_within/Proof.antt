@@ -2,7 +2,7 @@
 use borrow.Author.Needs.{needs}
 use Prim.Native.Nat.{_+_}
 use lib.Ieee.{binary64, ofInt}
-use Rattle.floats.specs.Floor.{within, end, wholeWithin}
+use Rattle.floats.specs.inner.Floor.{within, end, wholeWithin}
 use Rattle.floats.proofs.Compared.{not-nan, round-plain, within-number}
 use Rattle.floats.proofs.whole_within.Statement.{statement}
 use Rattle.floats.proofs.whole_within.Tie as tie

@@ -3,7 +3,7 @@ use Prim.Native.Nat.{ℕ, _+_, _*_, _≤_, _<_}
 use lib.IntN.{pos, negsuc}
 use lib.Ieee.{Float, fin, binary64, mul, add, ofInt}
 use mathlib.Core.Bool.{false}
-use Rattle.floats.specs.Floor.{wholeWithin}
+use Rattle.floats.specs.inner.Floor.{wholeWithin}
 use Rattle.quantization.specs.declared.scale.Scale.{Scale}
 
 -- base + 1/2, and 4096 more: an odd number's half

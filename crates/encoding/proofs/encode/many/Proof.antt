@@ -59,12 +59,13 @@ loop-again c =
     let l = f .before .before .loop in
     let v = c .before .before .before .before .numbers in
     let at = f .run-from .result in
-    let back : at ≤ l .i = omega (arith, f .run-from .ensures) in
-    (within f,
-    bytes-as _ _ refl (c .before .before .store-eight .ensures)
-    (eight-fills (s .args .layout) (s .pre .0 .0) (codes s) (s .args .out .now) (s .args .n) (s .pre .1 .2) (s .pre .1 .1) (v .result) (l .out) at (within f)
-    (λ j k. ap (λ (xs : List ℕ). getD xs j 0) (v .ensures) ∙ getD-tabulate 8 (λ k. joined (s .args .layout) (codes s) (at + k)) j 0 k)
-    (fewer (s .args .layout) (s .pre .0 .0) (codes s) (s .args .out .now) (s .args .n) (s .pre .1 .2) (s .pre .1 .1) (l .out) back (l .inv .1))))
+    let back : at ≤ l .i = omega (arith, f .run-from .ensures) in (
+      within f,
+      bytes-as _ _ refl (c .before .before .store-eight .ensures)
+          (eight-fills (s .args .layout) (s .pre .0 .0) (codes s) (s .args .out .now) (s .args .n) (s .pre .1 .2) (s .pre .1 .1) (v .result) (l .out) at (within f)
+          (λ j k. ap (λ (xs : List ℕ). getD xs j 0) (v .ensures) ∙ getD-tabulate 8 (λ k. joined (s .args .layout) (codes s) (at + k)) j 0 k)
+          (fewer (s .args .layout) (s .pre .0 .0) (codes s) (s .args .out .now) (s .args .n) (s .pre .1 .2) (s .pre .1 .1) (l .out) back (l .inv .1))),
+    )
 
 same-length : tie.Need-same-length Inv-loop μ-loop
 same-length c = c .before .loop .inv .1 .long

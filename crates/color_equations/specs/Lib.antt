@@ -1,0 +1,5 @@
+pub mod Weights
+pub mod Equations
+pub mod Conversion
+pub mod Line
+pub mod inner

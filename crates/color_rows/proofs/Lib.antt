@@ -1,0 +1,5 @@
+pub mod Sizes
+pub mod Table
+pub mod Known
+mod Ranges
+mod Differences

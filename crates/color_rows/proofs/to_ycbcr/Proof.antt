@@ -1,0 +1,56 @@
+-- `color_rows::to_ycbcr` meets its contract. Assumes nothing.
+use borrow.Author.Needs.{needs}
+use mathlib.Core.Path.{refl, sym, ap, _∙_, subst}
+use Rattle.lists.proofs.Tests.{pass, stop}
+use Rattle.layout.specs.Layout.{topOf, bitsOf}
+use Rattle.layout.proofs.Depths.{known-bits}
+use Rattle.color_rows.specs.declared.KnownConversion.the-variants.{Known}
+use Rattle.color_rows.specs.declared.numbers.Numbers.{Numbers}
+use Rattle.color_rows.specs.inner.Rows.{ycbcrRows}
+use Rattle.color_rows.specs.inner.Sizes.{SmallNumbers}
+use Rattle.color_rows.proofs.Known.{passed, numbers-small, numbers-told, numbers-unknown}
+use Rattle.color_rows.proofs.to_ycbcr.Statement.{statement}
+use Rattle.color_rows.proofs.to_ycbcr.Tie as tie
+
+numbers-of-requires : tie.Need-numbers-of-requires
+numbers-of-requires c κs = search needs
+
+enum-known-numbers : tie.Need-enum-known-numbers
+enum-known-numbers c = search needs
+
+rows-requires : tie.Need-rows-requires
+rows-requires c κs =
+    let a = c .before .before .before .before .args in
+    let e = numbers-told (a .primaries) (a .depth) (a .range-in) (a .range-out) (sym (c .before .before .before .numbers-of .ensures) ∙ c .before .numbers .given .1) in
+    subst SmallNumbers (sym (e .1)) (numbers-small (a .primaries) (a .depth) (a .range-in) (a .range-out) (e .0))
+
+top-requires : tie.Need-top-requires
+top-requires c κs = search needs
+
+enum-told : tie.Need-enum-told
+enum-told c = search needs
+
+returns : tie.Need-returns
+returns c =
+    let a = c .before .before .before .before .before .before .args in
+    let e = numbers-told (a .primaries) (a .depth) (a .range-in) (a .range-out) (sym (c .before .before .before .before .before .numbers-of .ensures) ∙ c .before .before .before .numbers .given .1) in
+    let rows = c .before .rows .ensures ∙ ap ycbcrRows (e .1) in
+    let top = c .top .ensures ∙ ap (λ (m : Numbers). topOf (bitsOf (m .depth))) (e .1) ∙ ap topOf (known-bits (a .depth) (passed (a .primaries) (a .depth) (a .range-in) (a .range-out) (e .0) .depth)) in
+    (λ i. Known (record { rows = rows i; top = top i })) ∙ sym (stop _ (e .0))
+
+returns-2 : tie.Need-returns-2
+returns-2 c =
+    let a = c .before .before .before .args in
+    sym (pass _ (numbers-unknown (a .primaries) (a .depth) (a .range-in) (a .range-out) (sym (c .before .before .numbers-of .ensures) ∙ c .enum-told .given .1)) refl)
+
+pub to-ycbcr-spec : {M : Type 1} → statement M
+to-ycbcr-spec =
+    tie.close
+    (tie.spec
+    numbers-of-requires
+    enum-known-numbers
+    rows-requires
+    top-requires
+    enum-told
+    returns
+    returns-2)

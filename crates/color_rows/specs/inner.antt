@@ -1,0 +1,4 @@
+pub mod Green
+pub mod Rows
+pub mod Sizes
+pub mod Known

@@ -1,0 +1,163 @@
+// Y'CbCr to R'G'B': R', G' and B', linear in the codes of Y', Cb, Cr.
+ghost use mathlib.Core.Path.{_≡_};
+ghost use Rattle.layout.specs.declared.kind.Kind.the-variants.{Brightness};
+ghost use Rattle.layout.specs.Layout.{bitsOf};
+ghost use Rattle.quantization.specs.Scale.{scaleOf};
+ghost use Rattle.color_rows.specs.inner.Rows.{floatsOf, spreadOf, redValue, blueValue, greenValue, greenRow, rgbRows};
+ghost use Rattle.color_rows.specs.inner.Sizes.{SmallWeights, SmallSpread, FullSpread, SmallNumbers};
+use crate::green::green_of_narrow;
+use crate::green::ratio_of;
+use crate::linear::Linear;
+use crate::linear::Value;
+use crate::linear::float_row;
+use crate::numbers::Numbers;
+use color_equations::Weights;
+use color_line::FloatRow;
+use color_line::FloatRows;
+use layout::Depth;
+use layout::Kind;
+use layout::Range;
+use quantization::Scale;
+
+// The scales of Y' and of Cb and Cr over one divisor: Y' is luma (y - black) / whole, and Cb is chroma (cb - neutral) / whole.
+pub struct Spread {
+    pub luma: u64,
+    pub chroma: u64,
+    pub whole: u64,
+    pub black: u64,
+    pub neutral: u64,
+}
+
+fn spread_of(range: Range, depth: Depth) -> Spread
+    ensures { λ r. ⌜ r ≡ spreadOf range (bitsOf depth) ⌝ }
+{
+    let s = depth.step() as u64;
+    let m = depth.top() as u64;
+    match range {
+        Range::Narrow => Spread {
+            luma: 224,
+            chroma: 219,
+            whole: 49056 * s,
+            black: 16 * s,
+            neutral: 128 * s,
+        },
+        Range::Full => Spread {
+            luma: 1,
+            chroma: 1,
+            whole: m,
+            black: 0,
+            neutral: (m + 1) / 2,
+        },
+    }
+}
+
+// R' = Y' + 2 (1 - KR) Cr.
+fn red(w: Weights, from: Spread) -> Value
+    requires { ⌜ SmallWeights w × SmallSpread from ⌝ }
+    ensures { λ r. ⌜ r ≡ redValue w from ⌝ }
+{
+    let luma = 10000 * from.luma;
+    let chroma = 2 * (10000 - w.red as u64) * from.chroma;
+    Value {
+        sum: Linear {
+            plus0: luma,
+            plus1: 0,
+            plus2: chroma,
+            plus: 0,
+            minus0: 0,
+            minus1: 0,
+            minus2: 0,
+            minus: luma * from.black + chroma * from.neutral,
+        },
+        half: 5000 * from.whole,
+    }
+}
+
+// B' = Y' + 2 (1 - KB) Cb.
+fn blue(w: Weights, from: Spread) -> Value
+    requires { ⌜ SmallWeights w × SmallSpread from ⌝ }
+    ensures { λ r. ⌜ r ≡ blueValue w from ⌝ }
+{
+    let luma = 10000 * from.luma;
+    let chroma = 2 * (10000 - w.blue as u64) * from.chroma;
+    Value {
+        sum: Linear {
+            plus0: luma,
+            plus1: chroma,
+            plus2: 0,
+            plus: 0,
+            minus0: 0,
+            minus1: 0,
+            minus2: 0,
+            minus: luma * from.black + chroma * from.neutral,
+        },
+        half: 5000 * from.whole,
+    }
+}
+
+// G' from the equation for Y', out of full range: G' = Y' - (2 KR (1 - KR) Cr + 2 KB (1 - KB) Cb) / KG, with
+// KG = 1 - KR - KB.
+fn green_of_full(w: Weights, from: Spread) -> Value
+    requires { ⌜ SmallWeights w × FullSpread from ⌝ }
+    ensures { λ r. ⌜ r ≡ greenValue w from ⌝ }
+{
+    let red = w.red as u64;
+    let blue = w.blue as u64;
+    let green = 10000 * (10000 - red - blue);
+    let of_red = 2 * red * (10000 - red);
+    let of_blue = 2 * blue * (10000 - blue);
+    let chroma = from.chroma;
+    Value {
+        sum: Linear {
+            plus0: green * from.luma,
+            plus1: 0,
+            plus2: 0,
+            plus: (of_blue + of_red) * chroma * from.neutral,
+            minus0: 0,
+            minus1: of_blue * chroma,
+            minus2: of_red * chroma,
+            minus: green * from.luma * from.black,
+        },
+        half: 5000 * (10000 - red - blue) * from.whole,
+    }
+}
+
+// G' out of either range.
+fn green_row(numbers: Numbers, spread: Spread, out: Scale) -> FloatRow
+    requires { ⌜ SmallNumbers numbers × (spread ≡ spreadOf (numbers .from) (bitsOf (numbers .depth))) ⌝ }
+    requires { ⌜ out ≡ scaleOf (numbers .to) (bitsOf (numbers .depth)) Brightness ⌝ }
+    ensures { λ r. ⌜ r ≡ floatsOf (greenRow numbers) ⌝ }
+{
+    let depth = numbers.depth;
+    let from = numbers.from;
+    let to = numbers.to;
+    match from {
+        Range::Narrow => {
+            let ratio = ratio_of(to, depth);
+            float_row(
+                green_of_narrow(numbers.green, spread, ratio),
+                ratio.span,
+                out,
+            )
+        }
+        Range::Full => float_row(green_of_full(numbers.weights, spread), out.span as u64, out),
+    }
+}
+
+// The rows of R', G' and B'.
+pub(crate) fn rows(numbers: Numbers) -> FloatRows
+    requires { ⌜ SmallNumbers numbers ⌝ }
+    ensures { λ r. ⌜ r ≡ rgbRows numbers ⌝ }
+{
+    let w = numbers.weights;
+    let depth = numbers.depth;
+    let from = numbers.from;
+    let to = numbers.to;
+    let spread = spread_of(from, depth);
+    let out = Scale::of(to, depth, Kind::Brightness);
+    FloatRows {
+        first: float_row(red(w, spread), out.span as u64, out),
+        second: green_row(numbers, spread, out),
+        third: float_row(blue(w, spread), out.span as u64, out),
+    }
+}

@@ -1,0 +1,4 @@
+mod Quotients
+mod Lowest
+mod Equations
+pub mod Claims
