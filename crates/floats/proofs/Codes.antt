@@ -14,7 +14,7 @@ use lib.Ieee.Back.{round-whole}
 use lib.Ieee.Positive.{positive, positive-of-value, mul-at}
 use Rattle.fractions.specs.Fraction.{bounded}
 use Rattle.floats.specs.inner.Floor.{wholeOf, end, wholeWithin}
-use Rattle.floats.proofs.Compared.{within-high}
+use Rattle.floats.proofs.Compared.{lt-not, within-high}
 use Rattle.floats.proofs.Floors.{end-positive, whole-float, below-low, rounded-floor, beyond, more}
 use Rattle.floats.proofs.Products.{digits, product}
 use Rattle.floats.proofs.Sums.{signedSum, summed}
@@ -115,7 +115,7 @@ module _ (span base low high : ℕ) (some : 0 < span) (span-most : span ≤ 4096
   code-of-inf true = ap (wholeWithin low high) (placed-inf true) ∙ below-low (inf true) low high order high-most (inf-low (end low) (end-positive low low-most))
   code-of-inf false =
       ap (wholeWithin low high) (placed-inf false)
-      ∙ ap wholeOf (within-high (end low) (end high) (inf false) (inf-high (end low) (end-positive low low-most)) (inf-high (end high) (end-positive high high-most)))
+      ∙ ap wholeOf (within-high (end low) (end high) (inf false) (inf-high (end low) (end-positive low low-most)) (lt-not (end high) (inf false) (inf-high (end high) (end-positive high high-most))))
       ∙ whole-float high high-most
 
   -- that of the finite value ±m * 2 ^ e

@@ -147,7 +147,7 @@ lt-not (fin true m k) (fin true n d) e = one-way (n * up d * down k) (m * up k *
 -- between two numbers, a number
 pub within-number : (lo hi t : Float) → T (not (isNan lo)) → T (not (isNan hi)) → T (not (isNan (within lo hi t)))
 unfolding within lt isNan
-within-number lo hi t a b = either (lt hi (cond (lt lo t) t lo)) hi (cond (lt lo t) t lo) b (larger t)
+within-number lo hi t a b = either (lt (cond (lt lo t) t lo) hi) (cond (lt lo t) t lo) hi (larger t) b
   where
     either : (z : Bool) (x y : Float) → T (not (isNan x)) → T (not (isNan y)) → T (not (isNan (cond z x y)))
     either true x y p q = p
@@ -164,15 +164,15 @@ within-number lo hi t a b = either (lt hi (cond (lt lo t) t lo)) hi (cond (lt lo
     larger (inf s) = either (lt lo (inf s)) (inf s) lo tt a
     larger (fin s m e) = either (lt lo (fin s m e)) (fin s m e) lo tt a
 
--- what is not above the lower number, and that not above the upper, is brought to the lower
-pub within-low : (lo hi t : Float) → lt lo t ≡ false → lt hi lo ≡ false → within lo hi t ≡ lo
+-- what is not above the lower number is brought to it, or to the upper, if that is not above it
+pub within-low : (lo hi t : Float) → lt lo t ≡ false → within lo hi t ≡ cond (lt lo hi) lo hi
 unfolding within
-within-low lo hi t e f = ap (λ (z : Bool). cond (lt hi (cond z t lo)) hi (cond z t lo)) e ∙ ap (λ (z : Bool). cond z hi lo) f
+within-low lo hi t e = ap (λ (z : Bool). cond (lt (cond z t lo) hi) (cond z t lo) hi) e
 
-pub within-high : (lo hi t : Float) → lt lo t ≡ true → lt hi t ≡ true → within lo hi t ≡ hi
+pub within-high : (lo hi t : Float) → lt lo t ≡ true → lt t hi ≡ false → within lo hi t ≡ hi
 unfolding within
-within-high lo hi t e f = ap (λ (z : Bool). cond (lt hi (cond z t lo)) hi (cond z t lo)) e ∙ ap (λ (z : Bool). cond z hi t) f
+within-high lo hi t e f = ap (λ (z : Bool). cond (lt (cond z t lo) hi) (cond z t lo) hi) e ∙ ap (λ (z : Bool). cond z t hi) f
 
-pub within-same : (lo hi t : Float) → lt lo t ≡ true → lt hi t ≡ false → within lo hi t ≡ t
+pub within-same : (lo hi t : Float) → lt lo t ≡ true → lt t hi ≡ true → within lo hi t ≡ t
 unfolding within
-within-same lo hi t e f = ap (λ (z : Bool). cond (lt hi (cond z t lo)) hi (cond z t lo)) e ∙ ap (λ (z : Bool). cond z hi t) f
+within-same lo hi t e f = ap (λ (z : Bool). cond (lt (cond z t lo) hi) (cond z t lo) hi) e ∙ ap (λ (z : Bool). cond z t hi) f

@@ -2,9 +2,9 @@
 use mathlib.Core.Path.{_≡_, refl, sym, ap, _∙_, subst}
 use mathlib.Core.Logic.{_⊎_, inl, inr}
 use Prim.Native.Nat.{ℕ, suc, _+_, _-_, _*_, _/_, _^_, _≤_, _<_}
-use native.Mathlib.Nat.{le-trans, le-of-eq, le-of-suc-le-suc, le-of-lt, lt-suc-self, lt-of-lt-of-le, lt-of-le-of-lt, div-mul-le-self, mul-lt-mul-of-pos-right, lt-of-not-le, not-le-of-lt, mul-one, mul-assoc, mul-right-comm, add-mul, one-mul, le-div-iff-mul-le, div-lt-iff-lt-mul, div-eq-of-lt, div-eq-of-lt-le, add-mul-div-right}
+use native.Mathlib.Nat.{le-trans, le-of-eq, le-of-suc-le-suc, lt-suc-self, lt-of-lt-of-le, lt-of-le-of-lt, div-mul-le-self, mul-lt-mul-of-pos-right, lt-of-not-le, not-le-of-lt, mul-one, mul-assoc, mul-right-comm, add-mul, one-mul, le-div-iff-mul-le, div-lt-iff-lt-mul, div-eq-of-lt, div-eq-of-lt-le, add-mul-div-right}
 use native.Mathlib.Omega.{arith}
-use mathlib.Core.Bool.{Bool, true, false, not}
+use mathlib.Core.Bool.{Bool, true, false, not, cond}
 use lib.Dec.{T, leb, leb→le, nleb→lt, lit<, lit≤}
 use lib.Pow.{pow-add, pow-mono, shl-lt}
 use native.Mathlib.Numerals.{lt-add-one}
@@ -15,7 +15,7 @@ use lib.Ieee.Order.{round-mono}
 use lib.Ieee.Positive.{num, den, den-pos, positive, positive-of-value, own-value, value→cross, values-of-le, between}
 use Rattle.fractions.specs.Fraction.{bounded}
 use Rattle.floats.specs.inner.Floor.{within, wholeOf, end, wholeWithin}
-use Rattle.floats.proofs.Compared.{lt-le, not-lt, lt-not, round-plain, within-low, within-high, within-same}
+use Rattle.floats.proofs.Compared.{not-lt, lt-not, round-plain, within-low, within-high, within-same}
 use Rattle.floats.proofs.Pattern.{whole-is}
 
 -- a whole number as an f64
@@ -68,16 +68,26 @@ before-times k d z =
     let e1 : w + 1 ≡ k * E = omega arith in
     sym (ap (λ (x : ℕ). w * d + x) (one-mul d)) ∙ sym (add-mul w 1 d) ∙ ap (λ (x : ℕ). x * d) e1 ∙ mul-right-comm k E d
 
+no-gap : (a b c z : ℕ) → a * E ≤ b → b + z ≡ c * E → c ≤ a → 0 < z → ⊥
+no-gap a b c z x y w q = omega arith
+
 -- ---- the ends of the codes, as floats
 pub end-positive : (k : ℕ) → k ≤ 4095 → T (positive (end k))
 end-positive k h = float-positive (k + 4096) (omega arith) (omega arith)
 
-pub end-not-below : (low high : ℕ) → low ≤ high → lt (end high) (end low) ≡ false
-end-not-below low high lh = go (lt (end high) (end low)) (λ e. lt-le (end high) (end low) (round-plain binary64 (high + 4096) 1) (round-plain binary64 (low + 4096) 1) e (round-mono binary64 (low + 4096) 1 (high + 4096) 1 (lit< tt) (lit< tt) (omega arith)))
+-- the lower of two ends, if one is below the other, and else either
+lower : (low high : ℕ) → low ≤ high → high ≤ 4095 → wholeOf (cond (lt (end low) (end high)) (end low) (end high)) ≡ low
+lower low high lh h = go (lt (end low) (end high)) (not-lt (end low) (end high) (round-plain binary64 (low + 4096) 1) (round-plain binary64 (high + 4096) 1))
   where
-    go : (b : Bool) → (b ≡ true → ⊥) → b ≡ false
-    go true f = absurd (f refl)
-    go false f = refl
+    same : (a b : ℕ) → a ≤ b → (b + 4096) * 1 ≤ (a + 4096) * 1 → b ≡ a
+    same a b l m = omega arith
+
+    go : (b : Bool) → (b ≡ false → T (le (end high) (end low))) → wholeOf (cond b (end low) (end high)) ≡ low
+    go true f = whole-float low (omega arith)
+    go false f =
+        whole-float high h
+        ∙ same low high lh
+        (values-of-le (end high) (end low) (high + 4096) 1 (low + 4096) 1 (end-positive high h) (end-positive low (omega arith)) (float-value (high + 4096) (omega arith)) (float-value (low + 4096) (omega arith)) (f refl))
 
 module _ (n d : ℕ) (d0 : 0 < d) (apart : Apart n d) where
   abbrev t : Float
@@ -102,14 +112,11 @@ module _ (n d : ℕ) (d0 : 0 < d) (apart : Apart n d) where
     reached : v * d ≤ n
     reached = le-of-suc-le-suc (lt-of-not-le (λ (g : suc n ≤ v * d). clash g))
       where
-        none : (a b c z : ℕ) → a * E ≤ b → b + z ≡ c * E → c ≤ a → 0 < z → ⊥
-        none a b c z x y w q = omega arith
-
         clash : n < v * d → ⊥
         clash g =
             let z : 0 < v * E - 1 = omega arith in
             let w = before-value v (omega arith) (omega arith) in
-            none (num t) ((v * E - 1) * den t) (v * den t) (den t)
+            no-gap (num t) ((v * E - 1) * den t) (v * den t) (den t)
             (values-of-le t (before v) (num t) (den t) (v * E - 1) E p (positive-of-value (before v) (v * E - 1) E w z) (own-value t p) w (under v (omega arith) g))
             (before-times v (den t) (omega arith)) lo (den-pos t)
 
@@ -151,7 +158,7 @@ module _ (n d : ℕ) (d0 : 0 < d) (apart : Apart n d) where
     abbrev answer : ℕ
     answer = bounded low high (n / d - 4096)
 
-    -- not above the bottom, and above the top
+    -- not above the bottom, and not below the top
     small : lt bottom t ≡ false → low ≡ answer
     small e =
         let g : n / d < low + 4097 = div-lt-iff-lt-mul d0 .1 (lt-of-not-le (λ (g : (low + 4097) * d ≤ n). passes g)) in
@@ -171,22 +178,39 @@ module _ (n d : ℕ) (d0 : 0 < d) (apart : Apart n d) where
             none : (a d k : ℕ) → 0 < d → (k + 4097) * d ≤ a * 1 → a * 1 ≤ (k + 4096) * d → ⊥
             none a d k z x y = omega (arith, add-mul k 4097 d, add-mul k 4096 d)
 
-    large : lt top t ≡ true → high ≡ answer
+    large : lt t top ≡ false → high ≡ answer
     large e =
-        let g : high + 4096 ≤ n / d = le-div-iff-mul-le d0 .1 (le-of-suc-le-suc (lt-of-not-le (λ (g : suc n ≤ (high + 4096) * d). lt-le top t (round-plain binary64 (high + 4096) 1) (round-plain binary64 n d) e (upto (high + 4096) (le-of-lt g))))) in
+        let g : high + 4096 ≤ n / d = le-div-iff-mul-le d0 .1 (le-of-suc-le-suc (lt-of-not-le (λ (g : suc n ≤ (high + 4096) * d). stays g))) in
         omega arith
+      where
+        stays : n < (high + 4096) * d → ⊥
+        stays g =
+            let k = high + 4096 in
+            let u = before k in
+            let w = before-value k (omega arith) (omega arith) in
+            let q = positive-of-value u (k * E - 1) E w (omega arith) in
+            let l : T (le top t) = not-lt t top (round-plain binary64 n d) (round-plain binary64 (high + 4096) 1) e in
+            let m = under k (omega arith) g in
+            let p = between top t u (end-positive high h) q l m in
+            no-gap (num t) ((k * E - 1) * den t) (k * den t) (den t)
+            (values-of-le t u (num t) (den t) (k * E - 1) E p q (own-value t p) w m)
+            (before-times k (den t) (omega arith))
+            (le-trans (values-of-le top t k 1 (num t) (den t) (end-positive high h) p (float-value k (omega arith)) (own-value t p) l) (le-of-eq (mul-one (num t))))
+            (den-pos t)
 
     pub floor-is : wholeWithin low high t ≡ answer
     unfolding wholeWithin
     floor-is = first (lt bottom t) refl
       where
-        third : (b : Bool) → lt top t ≡ b → lt bottom t ≡ true → wholeOf (within bottom top t) ≡ answer
-        third true e f = ap wholeOf (within-high bottom top t f e) ∙ whole-float high h ∙ large e
-        third false e f = ap wholeOf (within-same bottom top t f e) ∙ inside (not-lt t bottom (round-plain binary64 n d) (round-plain binary64 (low + 4096) 1) (lt-not bottom t f)) (not-lt top t (round-plain binary64 (high + 4096) 1) (round-plain binary64 n d) e)
+        third : (b : Bool) → lt t top ≡ b → lt bottom t ≡ true → wholeOf (within bottom top t) ≡ answer
+        third true e f =
+            ap wholeOf (within-same bottom top t f e)
+            ∙ inside (not-lt t bottom (round-plain binary64 n d) (round-plain binary64 (low + 4096) 1) (lt-not bottom t f)) (not-lt top t (round-plain binary64 (high + 4096) 1) (round-plain binary64 n d) (lt-not t top e))
+        third false e f = ap wholeOf (within-high bottom top t f e) ∙ whole-float high h ∙ large e
 
         first : (b : Bool) → lt bottom t ≡ b → wholeOf (within bottom top t) ≡ answer
-        first true e = third (lt top t) refl e
-        first false e = ap wholeOf (within-low bottom top t e (end-not-below low high lh)) ∙ whole-float low (omega arith) ∙ small e
+        first true e = third (lt t top) refl e
+        first false e = ap wholeOf (within-low bottom top t e) ∙ lower low high lh h ∙ small e
 
 -- ---- of a float that is a rounded fraction, or, where the fraction is cut at 0, below every number above zero
 abbrev pub Rounded : Float → ℕ → ℕ → Type 0
@@ -195,7 +219,7 @@ Rounded t a d = (t ≡ round binary64 false a d) ⊎ ((a ≡ 0) × ((y : Float) 
 -- what is below the bottom is brought to it
 pub below-low : (t : Float) (low high : ℕ) → low ≤ high → high ≤ 4095 → lt t (end low) ≡ true → wholeWithin low high t ≡ low
 unfolding wholeWithin
-below-low t low high lh h e = ap wholeOf (within-low (end low) (end high) t (lt-not t (end low) e) (end-not-below low high lh)) ∙ whole-float low (omega arith)
+below-low t low high lh h e = ap wholeOf (within-low (end low) (end high) t (lt-not t (end low) e)) ∙ lower low high lh h
 
 pub rounded-floor : (t : Float) (a d low high : ℕ) → 0 < d → Apart a d → low ≤ high → high ≤ 4095 → Rounded t a d → wholeWithin low high t ≡ bounded low high (a / d - 4096)
 rounded-floor t a d low high D p lh h (inl e) = ap (wholeWithin low high) e ∙ floor-is a d D p low high lh h

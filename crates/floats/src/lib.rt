@@ -6,7 +6,7 @@ ghost use lib.Ieee.{isNan, lt};
 ghost use Rattle.floats.specs.inner.Floor.{wholeOf, wholeWithin};
 
 // The larger of t and low: low where t is a NaN. (The comparison is the machine's maximum as it stands, as that below is
-// its minimum.)
+// its minimum, and both leave what they find in t's place.)
 fn at_least(t: f64, low: f64) -> f64
     ensures { λ r. ⌜ r ≡ cond (lt low t) t low ⌝ }
 {
@@ -15,9 +15,9 @@ fn at_least(t: f64, low: f64) -> f64
 
 // The smaller of t and high.
 fn at_most(t: f64, high: f64) -> f64
-    ensures { λ r. ⌜ r ≡ cond (lt high t) high t ⌝ }
+    ensures { λ r. ⌜ r ≡ cond (lt t high) t high ⌝ }
 {
-    if high < t { high } else { t }
+    if t < high { t } else { high }
 }
 
 // The whole part, less 4096, of a number from 4096 to 8192: all of these have one exponent, so that it stands in bits 40 to

@@ -6,7 +6,7 @@ use lib.Ieee.{Float, binary64, round, lt, toBits}
 -- t, brought to low .. high by two comparisons, a NaN to low
 unfoldable pub within : Float → Float → Float → Float
 unfolding lt
-within low high t = cond (lt high (cond (lt low t) t low)) high (cond (lt low t) t low)
+within low high t = cond (lt (cond (lt low t) t low) high) (cond (lt low t) t low) high
 
 -- bits 40 to 51 of the pattern: of a number from 4096 to 8192, the whole part less 4096
 unfoldable pub wholeOf : Float → ℕ
