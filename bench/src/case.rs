@@ -7,7 +7,7 @@ use crate::side::{median, Side};
 use crate::stack_use;
 
 /// Lengths of lines, in points: the same points are cut into such lines.
-pub const LENGTHS: [usize; 5] = [1, 16, 256, 1024, POINTS];
+pub const LENGTHS: [usize; 6] = [1, 16, 64, 256, 1024, POINTS];
 
 /// What a case is called in the table.
 #[derive(Clone)]

@@ -5,7 +5,7 @@ use std::arch::asm;
 use std::hint::black_box;
 
 /// The most that any entry may use.
-pub const LIMIT: usize = 4096;
+pub const LIMIT: usize = 2048;
 
 const SIZE: usize = 1 << 18;
 

@@ -108,7 +108,9 @@ impl Row<'_> {
 fn aim(entry: &str) -> Option<f64> {
     match entry {
         "decode_line" | "unpack_line" | "pack_line" => Some(1.1),
-        "encode_line" | "rgb_to_ycbcr" | "ycbcr_to_rgb" => Some(1.2),
+        "encode_line" => Some(0.7),
+        "rgb_to_ycbcr" | "ycbcr_to_rgb" => Some(0.45),
+        "card_read" | "card_write" => Some(1.3),
         _ => None,
     }
 }
