@@ -47,22 +47,22 @@ Written by `bench/run --write`, from one run; `bench/run` alone prints the same 
 
 ## Shapes, and why they are exact
 
-Every loop works out what a line needs once (scales, rows, sizes), and is of a shape that the compiler does two or more points
-of at a time with SSE2 alone. Encoding and conversion do eight points a turn: all eight are worked out before any is stored.
+What a line needs is worked out once (scales, rows, sizes). Every loop over a long line is of a shape that the compiler does two
+or more points of at a time, with SSE2 alone. Encoding and conversion do eight points a turn: all eight are worked out before any is stored.
 
 *Encoding* is one product and one sum in f64: t = v span + (base + 4096.5). v is an f32 of 24 digits and span has 13 at most, so
-that the product is exact. Two comparisons bring t to low + 4096 .. high + 4096. From 4096 to 8192 an f64 has 40 digits below the
+that the product is exact. Two comparisons bring t to low + 4096 .. high + 4096. From 4096 to below 8192 an f64 has 40 digits below the
 binary point, and the code is bits 40 to 51 of its pattern: no cast, no division. The sum is the only step that can round. Say
 that v is m 2^-k, with m below 2^24. If k is 40 or less, t is a multiple of 2^-40 and is held exactly. If k is more, v is below
 2^24 2^-41, and the product below 2^12 2^-17 = 1/32; base + 4096.5 lies halfway between two whole numbers, so that t lies
 within 1/32 of there, and rounding it by 2^-41 at most leads to no other whole number. The code is the whole part of t, so it is
 right either way, and infinities are brought to the ends.
 
-*Conversion* is one division in f64 of whole numbers: (a x + b y + c z + d) / e, where x, y, z are codes of 12 bits at most, and d has
-half a divisor for the rounding and 4096 e. All products and sums stay below 2^53, so that they are exact, and e is at most
+*Conversion* is one division in f64 of whole numbers: (a x + b y + c z + d) / e, where x, y, z are codes of 12 bits at most, and d
+has, over e, the base, 1/2 for the rounding, and 4096. All products and sums stay below 2^53, so that they are exact, and e is at most
 2^40. A fraction with such a divisor that is no whole number is at least 2^-40 below the next one. The f64 nearest to it, which is
 a multiple of 2^-40 between 4096 and 8192, can then not pass that whole number, and whole numbers are held: so the whole part
-stays. G' from narrow codes has its common factors taken out beforehand, since its sums would pass 2^53.
+stays; and what lies outside the ends is brought to them. G' from narrow codes has its common factors taken out beforehand, since its sums would pass 2^53.
 "
     )
 }

@@ -1,4 +1,4 @@
--- What the weights of a number say of the number. Assumes nothing.
+-- What the weights that were looked up by a number say of the number. Assumes nothing.
 use mathlib.Core.Path.{_≡_, refl}
 use mathlib.Core.Bool.{Bool, true, false, cond}
 use Prim.Native.Nat.{ℕ}

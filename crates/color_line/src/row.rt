@@ -3,7 +3,7 @@ ghost use mathlib.Core.Path.{_≡_};
 ghost use Rattle.color_line.specs.inner.Rows.{rowCode, rowsCode, numberOf};
 
 // The code is the whole part of (first x + second y + third z + more) / over - 4096, within low .. high. The fraction is kept
-// 4096 above the code's, where every whole number has one exponent.
+// 4096 above the code's, where all codes have one exponent.
 pub struct FloatRow {
     pub first: f64,
     pub second: f64,

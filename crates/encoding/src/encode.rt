@@ -30,7 +30,7 @@ pub(crate) fn all_numbers(values: &[f32]) -> bool
 }
 
 // The code of a number.
-fn code_of(scale: Scale, value: f32) -> u16
+fn code_of_number(scale: Scale, value: f32) -> u16
     requires { ⌜ Fine scale × T (not (isNan value)) ⌝ }
     ensures { λ r. ⌜ r ≡ codeOr 0 (codeOf scale value) ⌝ }
 {
@@ -42,9 +42,9 @@ fn joined(layout: Layout, scales: Scales, values: &[f32], i: usize) -> u64
     requires { ⌜ (validLayout layout ≡ true) × Fitted layout scales × (allNumbers (now values) ≡ true) × (3 * i + 3 ≤ length (now values)) ⌝ }
     ensures { λ r. ⌜ r ≡ joinedOf layout (quantizedOf layout (now (values .entry))) i ⌝ }
 {
-    let a = code_of(scales.channel0, values[3 * i]);
-    let b = code_of(scales.channel1, values[3 * i + 1]);
-    let c = code_of(scales.channel2, values[3 * i + 2]);
+    let a = code_of_number(scales.channel0, values[3 * i]);
+    let b = code_of_number(scales.channel1, values[3 * i + 1]);
+    let c = code_of_number(scales.channel2, values[3 * i + 2]);
     packing::join(layout, a, b, c)
 }
 

@@ -1,4 +1,4 @@
--- The whole part of a number from 4096 to 8192 stands in bits 40 to 51 of its pattern. Assumes nothing.
+-- The whole part of a number from 4096 to below 8192 stands in bits 40 to 51 of its pattern. Assumes nothing.
 use mathlib.Core.Path.{_≡_, sym, ap, _∙_}
 use Prim.Native.Nat.{ℕ, _+_, _-_, _*_, _/_, _%_, _^_, _≤_, _<_}
 use native.Mathlib.Nat.{le-trans, le-of-eq, lt-of-lt-of-le, lt-of-not-le, not-le-of-lt, mul-right-comm, mul-le-mul-right, mul-lt-mul-of-pos-right, le-div-iff-mul-le, div-lt-iff-lt-mul, div-div-eq-div-mul, mul-div-mul-right, div-eq-of-lt-le}

@@ -6,7 +6,7 @@ use native.Mathlib.Nat.{le-trans, le-of-eq, le-of-lt, mul-one, zero-mul, mul-com
 use native.Mathlib.Omega.{arith}
 use mathlib.Core.Bool.{Bool, true, false, not, _&&_, cond, Bool·beq, true≢false}
 use lib.Dec.{T, ltb, eqb, eqb→eq, ltb→lt, nltb→le, lit<}
-use lib.Ieee.{Float, nan, inf, fin, binary64, up, down, round, neg, sum, add, sub, mul, div, lt}
+use lib.Ieee.{Float, nan, inf, fin, binary64, up, down, round, sum, add, mul, div, lt}
 use lib.Ieee.Fits.{up-pos, down-pos}
 use lib.Ieee.Exact.{HasValue}
 use lib.Ieee.Back.{round-whole}
@@ -49,26 +49,6 @@ pub record Whole (x : Float) (p n : ℕ) : Type 0 where
   pub sign : Bool
   pub value : HasValue x sign (distance p n) 1
   pub signed : Signed sign p n
-
-pub whole-of : (x : Float) (k : ℕ) → HasValue x false k 1 → Whole x k 0
-whole-of x k v = let e : k ≡ distance k 0 = far-is k 0 k (omega arith) in let z : 0 ≤ k = omega arith in record { sign = false; value = subst (λ (a : ℕ). HasValue x false a 1) e v; signed = z }
-
-swap : (p n : ℕ) → distance p n ≡ distance n p
-unfolding distance
-swap p n = omega arith
-
-opposite : (s : Bool) (p n : ℕ) → Signed s p n → Signed (not s) n p
-opposite true p n h = h
-opposite false p n h = h
-
-neg-value : (x : Float) (s : Bool) (a c : ℕ) → HasValue x s a c → HasValue (neg x) (not s) a c
-unfolding neg
-neg-value nan s a c v = absurd v
-neg-value (inf t) s a c v = absurd v
-neg-value (fin t m e) s a c v = (ap not (v .0), v .1)
-
-pub whole-neg : (x : Float) (p n : ℕ) → Whole x p n → Whole (neg x) n p
-whole-neg x p n w = record { sign = not (w .sign); value = subst (λ (a : ℕ). HasValue (neg x) (not (w .sign)) a 1) (swap p n) (neg-value x (w .sign) (distance p n) 1 (w .value)); signed = opposite (w .sign) p n (w .signed) }
 
 -- ---- products
 mul-is : (x y : Float) (s : Bool) (a k : ℕ) → HasValue x s a 1 → HasValue y false k 1 → mul binary64 x y ≡ round binary64 s (a * k) 1
@@ -195,10 +175,6 @@ module _ (p n q m : ℕ) (small : p + q + (n + m) ≤ 2 ^ 53) where
 
       second : (x p q c : ℕ) → x * 1 ≡ c * q → x * p ≡ c * (p * q)
       second x p q c h = ap (λ (z : ℕ). z * p) (sym (mul-one x) ∙ h) ∙ mul-assoc c q p ∙ ap (λ (z : ℕ). c * z) (mul-comm q p)
-
-  pub whole-sub : (x y : Float) → Whole x p n → Whole y m q → Whole (sub binary64 x y) (p + q) (n + m)
-  unfolding sub
-  whole-sub x y a b = whole-add x (neg y) a (whole-neg y m q b)
 
 -- ---- the quotient
 div-is : (x y : Float) (s : Bool) (a k : ℕ) → 0 < k → HasValue x s a 1 → HasValue y false k 1 → div binary64 x y ≡ round binary64 s a k

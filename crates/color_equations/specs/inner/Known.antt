@@ -1,4 +1,4 @@
--- The weights of any number of primaries. Only the code that works out a conversion cites it: the definitions have `weightsOf`. Assumes nothing.
+-- The weights by the number of the primaries, whatever it is. Only the code that works out a conversion cites it: the definitions have `weightsOf`. Assumes nothing.
 use Prim.Native.Nat.{ℕ}
 use mathlib.Core.Bool.{cond}
 use Rattle.layout.specs.Layout.{primariesKnown}

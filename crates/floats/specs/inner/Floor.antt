@@ -8,7 +8,7 @@ unfoldable pub within : Float → Float → Float → Float
 unfolding lt
 within low high t = cond (lt (cond (lt low t) t low) high) (cond (lt low t) t low) high
 
--- bits 40 to 51 of the pattern: of a number from 4096 to 8192, the whole part less 4096
+-- bits 40 to 51 of the pattern: of a number from 4096 to below 8192, the whole part less 4096
 unfoldable pub wholeOf : Float → ℕ
 unfolding toBits
 wholeOf t = toBits binary64 t / 1099511627776 % 4096

@@ -1,12 +1,10 @@
 -- `encoding::encode::few` meets its contract: each turn fills in one point. Assumes nothing.
 use borrow.Author.Needs.{needs}
-use mathlib.Core.Path.{_≡_, refl, sym, ap, _∙_}
+use mathlib.Core.Path.{refl, _∙_}
 use mathlib.Core.List.{List}
-use Prim.Native.Nat.{ℕ, _+_, _-_, _*_, _≤_, _<_}
+use Prim.Native.Nat.{ℕ, _-_, _*_, _≤_}
 use native.Mathlib.Omega.{arith}
-use lib.ListN.{getD}
 use Rattle.lists.proofs.Filled.{Filled}
-use Rattle.lists.proofs.Lists.{getD-tabulate}
 use Rattle.line.specs.Line.{joined, byteAt}
 use Rattle.packing.proofs.Bytes.{bytes-none, bytes-as, bytes-all}
 use Rattle.packing.proofs.Fills.{one-fills}

@@ -14,64 +14,64 @@ use Rattle.encoding.proofs.encode.joined.Statement.{statement}
 use Rattle.encoding.proofs.encode.joined.Tie as tie
 
 -- each of the three codes fits, and is the line's
-module _ (c : tie.After-code-of3) where
+module _ (c : tie.After-code-of-number3) where
   abbrev s : tie.Start
   s = c .before .before .before .before .before .before .before
 
-  code0 : (c .before .before .before .before .code-of .result < 2 ^ s .args .layout .depth) × (c .before .before .before .before .code-of .result ≡ getD (quantizedOf (s .args .layout) (s .args .values .now)) (3 * s .args .i) 0)
-  code0 = rw add-zero at (placed (s .args .layout) (s .args .values .now) (s .args .i) 0 _ _ (s .pre .1 .fitted0) (lit< tt) (omega arith) (rw (sym (add-zero (3 * s .args .i))) at (c .before .before .before .before .code-of .ensures)))
+  code0 : (c .before .before .before .before .code-of-number .result < 2 ^ s .args .layout .depth) × (c .before .before .before .before .code-of-number .result ≡ getD (quantizedOf (s .args .layout) (s .args .values .now)) (3 * s .args .i) 0)
+  code0 = rw add-zero at (placed (s .args .layout) (s .args .values .now) (s .args .i) 0 _ _ (s .pre .1 .fitted0) (lit< tt) (omega arith) (rw (sym (add-zero (3 * s .args .i))) at (c .before .before .before .before .code-of-number .ensures)))
 
-  code1 : (c .before .before .code-of2 .result < 2 ^ s .args .layout .depth) × (c .before .before .code-of2 .result ≡ getD (quantizedOf (s .args .layout) (s .args .values .now)) (3 * s .args .i + 1) 0)
-  code1 = placed (s .args .layout) (s .args .values .now) (s .args .i) 1 _ _ (s .pre .1 .fitted1) (lit< tt) (omega arith) (c .before .before .code-of2 .ensures)
+  code1 : (c .before .before .code-of-number2 .result < 2 ^ s .args .layout .depth) × (c .before .before .code-of-number2 .result ≡ getD (quantizedOf (s .args .layout) (s .args .values .now)) (3 * s .args .i + 1) 0)
+  code1 = placed (s .args .layout) (s .args .values .now) (s .args .i) 1 _ _ (s .pre .1 .fitted1) (lit< tt) (omega arith) (c .before .before .code-of-number2 .ensures)
 
-  code2 : (c .code-of3 .result < 2 ^ s .args .layout .depth) × (c .code-of3 .result ≡ getD (quantizedOf (s .args .layout) (s .args .values .now)) (3 * s .args .i + 2) 0)
-  code2 = placed (s .args .layout) (s .args .values .now) (s .args .i) 2 _ _ (s .pre .1 .fitted2) (lit< tt) (omega arith) (c .code-of3 .ensures)
+  code2 : (c .code-of-number3 .result < 2 ^ s .args .layout .depth) × (c .code-of-number3 .result ≡ getD (quantizedOf (s .args .layout) (s .args .values .now)) (3 * s .args .i + 2) 0)
+  code2 = placed (s .args .layout) (s .args .values .now) (s .args .i) 2 _ _ (s .pre .1 .fitted2) (lit< tt) (omega arith) (c .code-of-number3 .ensures)
 
-mul-code-of : tie.Need-mul-code-of
-mul-code-of c = search needs
+mul-code-of-number : tie.Need-mul-code-of-number
+mul-code-of-number c = search needs
 
-mul-code-of-2 : tie.Need-mul-code-of-2
-mul-code-of-2 c = search needs
+mul-code-of-number-2 : tie.Need-mul-code-of-number-2
+mul-code-of-number-2 c = search needs
 
-shared-slice-read-code-of : tie.Need-shared-slice-read-code-of
-shared-slice-read-code-of c = search needs
+shared-slice-read-code-of-number : tie.Need-shared-slice-read-code-of-number
+shared-slice-read-code-of-number c = search needs
 
-code-of-requires : tie.Need-code-of-requires
-code-of-requires c κs =
+code-of-number-requires : tie.Need-code-of-number-requires
+code-of-number-requires c κs =
     let s = c .before .before in
     (fine-at (s .args .layout) 0 _ (s .pre .0) (s .pre .1 .fitted0), number-at (s .args .values .now) (3 * s .args .i) (s .pre .2) (omega arith))
 
-mul-code-of-3 : tie.Need-mul-code-of-3
-mul-code-of-3 c = search needs
+mul-code-of-number-3 : tie.Need-mul-code-of-number-3
+mul-code-of-number-3 c = search needs
 
-add-code-of : tie.Need-add-code-of
-add-code-of c = search needs
+add-code-of-number : tie.Need-add-code-of-number
+add-code-of-number c = search needs
 
-mul-code-of-4 : tie.Need-mul-code-of-4
-mul-code-of-4 c = search needs
+mul-code-of-number-4 : tie.Need-mul-code-of-number-4
+mul-code-of-number-4 c = search needs
 
-shared-slice-read-code-of-2 : tie.Need-shared-slice-read-code-of-2
-shared-slice-read-code-of-2 c = search needs
+shared-slice-read-code-of-number-2 : tie.Need-shared-slice-read-code-of-number-2
+shared-slice-read-code-of-number-2 c = search needs
 
-code-of-requires-2 : tie.Need-code-of-requires-2
-code-of-requires-2 c κs =
+code-of-number-requires-2 : tie.Need-code-of-number-requires-2
+code-of-number-requires-2 c κs =
     let s = c .before .before .before .before in
     (fine-at (s .args .layout) 1 _ (s .pre .0) (s .pre .1 .fitted1), number-at (s .args .values .now) (3 * s .args .i + 1) (s .pre .2) (omega arith))
 
-mul-code-of-5 : tie.Need-mul-code-of-5
-mul-code-of-5 c = search needs
+mul-code-of-number-5 : tie.Need-mul-code-of-number-5
+mul-code-of-number-5 c = search needs
 
-add-code-of-2 : tie.Need-add-code-of-2
-add-code-of-2 c = search needs
+add-code-of-number-2 : tie.Need-add-code-of-number-2
+add-code-of-number-2 c = search needs
 
-mul-code-of-6 : tie.Need-mul-code-of-6
-mul-code-of-6 c = search needs
+mul-code-of-number-6 : tie.Need-mul-code-of-number-6
+mul-code-of-number-6 c = search needs
 
-shared-slice-read-code-of-3 : tie.Need-shared-slice-read-code-of-3
-shared-slice-read-code-of-3 c = search needs
+shared-slice-read-code-of-number-3 : tie.Need-shared-slice-read-code-of-number-3
+shared-slice-read-code-of-number-3 c = search needs
 
-code-of-requires-3 : tie.Need-code-of-requires-3
-code-of-requires-3 c κs =
+code-of-number-requires-3 : tie.Need-code-of-number-requires-3
+code-of-number-requires-3 c κs =
     let s = c .before .before .before .before .before .before in
     (fine-at (s .args .layout) 2 _ (s .pre .0) (s .pre .1 .fitted2), number-at (s .args .values .now) (3 * s .args .i + 2) (s .pre .2) (omega arith))
 
@@ -89,19 +89,19 @@ pub joined-spec : {M : Type 1} → statement M
 joined-spec =
     tie.close
     (tie.spec
-    mul-code-of
-    mul-code-of-2
-    shared-slice-read-code-of
-    code-of-requires
-    mul-code-of-3
-    add-code-of
-    mul-code-of-4
-    shared-slice-read-code-of-2
-    code-of-requires-2
-    mul-code-of-5
-    add-code-of-2
-    mul-code-of-6
-    shared-slice-read-code-of-3
-    code-of-requires-3
+    mul-code-of-number
+    mul-code-of-number-2
+    shared-slice-read-code-of-number
+    code-of-number-requires
+    mul-code-of-number-3
+    add-code-of-number
+    mul-code-of-number-4
+    shared-slice-read-code-of-number-2
+    code-of-number-requires-2
+    mul-code-of-number-5
+    add-code-of-number-2
+    mul-code-of-number-6
+    shared-slice-read-code-of-number-3
+    code-of-number-requires-3
     join-requires
     returns)

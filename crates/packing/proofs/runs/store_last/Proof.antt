@@ -11,7 +11,7 @@ use Rattle.lists.specs.Bytes.{byteOf}
 use Rattle.lists.specs.inner.Stores.{written}
 use Rattle.lists.proofs.Lists.{length-written}
 use Rattle.lists.proofs.Tests.{pass, stop}
-use Rattle.packing.specs.inner.Store.{pointsFit, stored, storedLast}
+use Rattle.packing.specs.inner.Store.{pointsFit, storedLast}
 use Rattle.packing.proofs.Fit.{PointsFit, fit-says, eight-fit, point-fits}
 use Rattle.packing.proofs.Fills.{length-stored}
 use Rattle.packing.proofs.runs.store_last.Statement.{statement}

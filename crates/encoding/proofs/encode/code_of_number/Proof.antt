@@ -1,12 +1,12 @@
--- `encoding::code_of` meets its contract: f64 has the code of a number. Assumes nothing.
+-- `encoding::code_of_number` meets its contract: f64 has the code of a number. Assumes nothing.
 use borrow.Author.Needs.{needs}
 use mathlib.Core.Path.{sym, ap, _∙_, subst}
 use lib.Dec.{T}
 use lib.Ieee.{binary32, fits}
 use Rattle.quantization.specs.Code.{codeOr}
 use Rattle.quantization.proofs.Codes.{float-code}
-use Rattle.encoding.proofs.encode.code_of.Statement.{statement}
-use Rattle.encoding.proofs.encode.code_of.Tie as tie
+use Rattle.encoding.proofs.encode.code_of_number.Statement.{statement}
+use Rattle.encoding.proofs.encode.code_of_number.Tie as tie
 
 -- the parameter is a value of its type
 held : (s : tie.Start) → T (fits binary32 (s .args .value))
@@ -23,5 +23,5 @@ returns c =
     let s = c .before .before in
     c .code .ensures ∙ ap (codeOr 0) (float-code (s .args .scale) (s .pre .0) (s .args .value) (held s) (s .pre .1))
 
-pub code-of-spec : {M : Type 1} → statement M
-code-of-spec = tie.close (tie.spec float-to-float-code code-requires returns)
+pub code-of-number-spec : {M : Type 1} → statement M
+code-of-number-spec = tie.close (tie.spec float-to-float-code code-requires returns)
