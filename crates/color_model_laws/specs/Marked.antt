@@ -10,7 +10,7 @@ use Rattle.layout.specs.declared.kind.Kind.{Kind}
 use Rattle.layout.specs.declared.kind.Kind.the-variants.{Brightness, Difference}
 use Rattle.quantization.specs.declared.code.Coded.{Coded}
 use Rattle.quantization.specs.declared.code.Coded.the-variants.{Code}
-use Rattle.quantization.specs.Scale.{scaleOf}
+use Rattle.scales.specs.Scale.{scaleOf}
 use Rattle.quantization.specs.Code.{codeOfValue, codeOf}
 use Rattle.color_equations.specs.Weights.{weightsOf}
 use Rattle.color_equations.specs.Equations.{lumaOf, chromaOf, primaryOf, greenFrom}

@@ -3,8 +3,8 @@ use mathlib.Core.Path.{_≡_, refl}
 use Rattle.layout.specs.declared.range.Range.the-variants.{Narrow, Full}
 use Rattle.layout.specs.declared.kind.Kind.the-variants.{Brightness}
 use Rattle.layout.specs.Layout.{bitsOf}
-use Rattle.quantization.specs.declared.scale.Scale.{Scale}
-use Rattle.quantization.specs.Scale.{scaleOf}
+use Rattle.scales.specs.declared.scale.Scale.{Scale}
+use Rattle.scales.specs.Scale.{scaleOf}
 use Rattle.color_rows.specs.declared.green.Ratio.{Ratio}
 use Rattle.color_rows.specs.declared.linear.Value.{Value}
 use Rattle.color_rows.specs.declared.numbers.Numbers.{Numbers}

@@ -13,8 +13,8 @@ use Rattle.layout.specs.declared.depth.Depth.the-variants.{Eight, Ten, Twelve}
 use Rattle.layout.specs.declared.kind.Kind.the-variants.{Brightness, Difference}
 use Rattle.layout.specs.Layout.{bitsOf, topOf}
 use Rattle.layout.proofs.Depths.{Steps, depth-steps}
-use Rattle.quantization.specs.declared.scale.Scale.{Scale}
-use Rattle.quantization.specs.Scale.{scaleOf}
+use Rattle.scales.specs.declared.scale.Scale.{Scale}
+use Rattle.scales.specs.Scale.{scaleOf}
 use Rattle.color_equations.specs.declared.weights.Weights.{Weights}
 use Rattle.color_equations.specs.Weights.{greenOf}
 use Rattle.color_rows.specs.declared.green.GreenTerms.{GreenTerms}

@@ -4,7 +4,7 @@ ghost use Prim.Native.Nat.{_+_, _^_, _≤_};
 ghost use Rattle.color_rows.specs.inner.Rows.{codedOf, differenceOf, floatsOf};
 ghost use Rattle.color_rows.specs.inner.Sizes.{Small};
 use color_line::FloatRow;
-use quantization::Scale;
+use scales::Scale;
 
 // plus0 x + plus1 y + plus2 z + plus - (minus0 x + minus1 y + minus2 z + minus).
 pub struct Linear {

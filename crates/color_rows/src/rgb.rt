@@ -2,7 +2,7 @@
 ghost use mathlib.Core.Path.{_≡_};
 ghost use Rattle.layout.specs.declared.kind.Kind.the-variants.{Brightness};
 ghost use Rattle.layout.specs.Layout.{bitsOf};
-ghost use Rattle.quantization.specs.Scale.{scaleOf};
+ghost use Rattle.scales.specs.Scale.{scaleOf};
 ghost use Rattle.color_rows.specs.inner.Rows.{floatsOf, spreadOf, redValue, blueValue, greenValue, greenRow, rgbRows};
 ghost use Rattle.color_rows.specs.inner.Sizes.{SmallWeights, SmallSpread, FullSpread, SmallNumbers};
 use crate::green::green_of_narrow;
@@ -17,7 +17,7 @@ use color_line::FloatRows;
 use layout::Depth;
 use layout::Kind;
 use layout::Range;
-use quantization::Scale;
+use scales::Scale;
 
 // The scales of Y' and of Cb and Cr over one divisor: Y' is luma (y - black) / whole, and Cb is chroma (cb - neutral) / whole.
 pub struct Spread {

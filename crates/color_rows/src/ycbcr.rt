@@ -9,7 +9,7 @@ use crate::numbers::Numbers;
 use color_equations::Weights;
 use color_line::FloatRows;
 use layout::Kind;
-use quantization::Scale;
+use scales::Scale;
 
 // Y' = KR R' + KG G' + KB B', with KG = 1 - KR - KB.
 fn luma(w: Weights, from: Scale) -> Value

@@ -6,8 +6,8 @@ use Rattle.layout.specs.declared.range.Range.the-variants.{Narrow, Full}
 use Rattle.layout.specs.declared.kind.Kind.the-variants.{Brightness, Difference}
 use Rattle.layout.specs.Layout.{bitsOf, topOf}
 use Rattle.layout.proofs.Depths.{Steps, depth-steps, known-bits}
-use Rattle.quantization.specs.declared.scale.Scale.{Scale}
-use Rattle.quantization.specs.Scale.{scaleOf}
+use Rattle.scales.specs.declared.scale.Scale.{Scale}
+use Rattle.scales.specs.Scale.{scaleOf}
 use Rattle.color_equations.specs.Conversion.{ycbcrOf, rgbOf}
 use Rattle.color_equations.proofs.Channels.{ycbcr-by, rgb-by}
 use Rattle.color_line.specs.inner.Rows.{rowCode, rowsCode}

@@ -10,8 +10,8 @@ use Rattle.layout.specs.declared.range.Range.the-variants.{Narrow, Full}
 use Rattle.layout.specs.declared.kind.Kind.the-variants.{Brightness, Difference}
 use Rattle.layout.proofs.Depths.{Steps}
 use Rattle.fractions.specs.Fraction.{Fraction, Same, _over_, bounded}
-use Rattle.quantization.specs.declared.scale.Scale.{Scale}
-use Rattle.quantization.specs.Scale.{scaleOf}
+use Rattle.scales.specs.declared.scale.Scale.{Scale}
+use Rattle.scales.specs.Scale.{scaleOf}
 use Rattle.quantization.specs.Code.{codeOfValue}
 use Rattle.color_equations.specs.declared.weights.Weights.{Weights}
 use Rattle.color_equations.specs.Weights.{greenOf}

@@ -16,8 +16,8 @@ use Rattle.layout.specs.declared.depth.Depth.the-variants.{Eight, Ten, Twelve}
 use Rattle.layout.specs.declared.kind.Kind.the-variants.{Brightness}
 use Rattle.layout.specs.Layout.{primariesKnown, bitsOf, stepOf}
 use Rattle.layout.proofs.Depths.{depth-steps}
-use Rattle.quantization.specs.declared.scale.Scale.{Scale}
-use Rattle.quantization.specs.Scale.{scaleOf}
+use Rattle.scales.specs.declared.scale.Scale.{Scale}
+use Rattle.scales.specs.Scale.{scaleOf}
 use Rattle.color_equations.specs.declared.weights.Weights.{Weights}
 use Rattle.color_equations.specs.Weights.{weightsOf, greenOf}
 use Rattle.color_equations.proofs.Table.{each-known}

@@ -11,9 +11,9 @@ use Rattle.lists.specs.inner.Stores.{written}
 use Rattle.lists.proofs.Filled.{Filled, filled-more, filled-all}
 use Rattle.layout.specs.declared.Layout.{Layout}
 use Rattle.layout.specs.Layout.{offsetOf}
-use Rattle.quantization.specs.declared.scale.Scale.{Scale}
-use Rattle.quantization.specs.Value.{valueOf}
-use Rattle.quantization.specs.Answer.{scaleAt}
+use Rattle.scales.specs.declared.scale.Scale.{Scale}
+use Rattle.scales.specs.Value.{valueOf}
+use Rattle.scales.specs.Channel.{scaleAt}
 use Rattle.line.specs.Point.{bits, pointOf}
 use Rattle.line.proofs.Points.{code-at}
 use Rattle.decoding.specs.Decode.{valueAt, valuesOf}

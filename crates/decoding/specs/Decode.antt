@@ -9,8 +9,8 @@ use Rattle.lists.specs.Lists.{tabulate, newOrKept}
 use Rattle.layout.specs.declared.Layout.{Layout}
 use Rattle.layout.specs.Layout.{validLayout}
 use Rattle.refusal.specs.Refusal.{outside, wrongLineOrOutput}
-use Rattle.quantization.specs.Value.{valueOf}
-use Rattle.quantization.specs.Answer.{scaleAt}
+use Rattle.scales.specs.Value.{valueOf}
+use Rattle.scales.specs.Channel.{scaleAt}
 use Rattle.line.specs.declared.LineAnswer.{LineAnswer}
 use Rattle.line.specs.declared.Point.{Point}
 use Rattle.line.specs.Line.{codeAt}

@@ -5,13 +5,13 @@ ghost use Prim.Native.Nat.{_+_, _*_, _<_, _≤_};
 ghost use lib.ListN.{length};
 ghost use Rattle.lists.specs.inner.Stores.{written};
 ghost use Rattle.layout.specs.Layout.{validLayout};
-ghost use Rattle.quantization.specs.Value.{valueOf};
-ghost use Rattle.quantization.specs.inner.Fitted.{Fitted};
+ghost use Rattle.scales.specs.Value.{valueOf};
+ghost use Rattle.scales.specs.inner.Fitted.{Fitted};
 ghost use Rattle.line.specs.Point.{bits};
 ghost use Rattle.decoding.specs.inner.Field.{fieldValue};
 use layout::Layout;
-use quantization::Scale;
-use quantization::Scales;
+use scales::Scale;
+use scales::Scales;
 
 // The value of the code in the n bits of v from bit `from` on.
 fn value32(scale: Scale, v: u32, from: u8, n: u8) -> f32

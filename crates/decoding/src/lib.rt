@@ -5,8 +5,8 @@ ghost use Rattle.decoding.specs.Decode.{decodeAnswer, decodeOutput, deco
 use layout::Layout;
 use line::LineAnswer;
 use line::Point;
-use quantization::LayoutScales;
-use quantization::Scales;
+use scales::LayoutScales;
+use scales::Scales;
 
 mod field;
 mod load;

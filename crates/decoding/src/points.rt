@@ -4,12 +4,12 @@ ghost use mathlib.Core.Bool.{true};
 ghost use Prim.Native.Nat.{_*_};
 ghost use lib.ListN.{length};
 ghost use Rattle.layout.specs.Layout.{validLayout};
-ghost use Rattle.quantization.specs.inner.Fitted.{Fitted};
+ghost use Rattle.scales.specs.inner.Fitted.{Fitted};
 ghost use Rattle.decoding.specs.Decode.{valuesOf};
 use crate::field;
 use crate::load;
 use layout::Layout;
-use quantization::Scales;
+use scales::Scales;
 
 fn points3(layout: Layout, scales: Scales, packed: &[u8], out: &mut [f32], n: usize)
     requires { ⌜ (validLayout layout ≡ true) × Fitted layout scales × (layout .bytes ≡ 3) ⌝ }

@@ -17,8 +17,9 @@ use Rattle.layout.specs.declared.Layout.{Layout}
 use Rattle.layout.specs.Layout.{validLayout}
 use Rattle.quantization.specs.declared.Quantized.the-variants.{Code}
 use Rattle.quantization.specs.Code.{codeOf, codeOr}
-use Rattle.quantization.specs.Answer.{scaleAt, quantized}
-use Rattle.quantization.proofs.Answers.{channel-known}
+use Rattle.scales.specs.Channel.{scaleAt}
+use Rattle.quantization.specs.Answer.{quantized}
+use Rattle.scales.proofs.Known.{channel-known}
 use Rattle.line.specs.declared.LineAnswer.{LineAnswer}
 use Rattle.line.specs.declared.LineAnswer.the-variants.{Points}
 use Rattle.line.specs.Line.{codeAt, codesOf, packedOf, CodeLine}

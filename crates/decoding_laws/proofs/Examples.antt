@@ -7,8 +7,8 @@ use Rattle.lists.specs.Lists.{tabulate}
 use Rattle.lists.specs.Bytes.{little}
 use Rattle.layout.specs.declared.Layout.{Layout}
 use Rattle.layout.specs.Layout.{validLayout}
-use Rattle.quantization.specs.Scale.{scaleOf}
-use Rattle.quantization.specs.Value.{nearestFloat, valueOf}
+use Rattle.scales.specs.Scale.{scaleOf}
+use Rattle.scales.specs.Value.{nearestFloat, valueOf}
 use Rattle.quantization.specs.Code.{codeOfValue, codeOf}
 use Rattle.line.specs.declared.LineAnswer.the-variants.{Points, Refused as LineRefused}
 use Rattle.line.specs.Point.{pointOf}

@@ -18,14 +18,15 @@ use Rattle.fractions.specs.Fraction.{bounded}
 use Rattle.layout.specs.declared.Layout.{Layout}
 use Rattle.layout.specs.Layout.{topOf, rangeOf, kindOf, offsetOf, validLayout}
 use Rattle.layout.proofs.Facts.{valid-says}
-use Rattle.quantization.specs.declared.scale.Scale.{Scale}
+use Rattle.scales.specs.declared.scale.Scale.{Scale}
 use Rattle.quantization.specs.declared.code.Coded.the-variants.{Code}
 use Rattle.quantization.specs.declared.Quantized.the-variants.{Code as Answered}
-use Rattle.quantization.specs.Value.{valueOf}
+use Rattle.scales.specs.Value.{valueOf}
 use Rattle.quantization.specs.Code.{codeOf, codeOr}
-use Rattle.quantization.specs.Answer.{named, scaleAt, dequantized, orRefused}
-use Rattle.quantization.proofs.Answers.{channel-known}
-use Rattle.quantization.proofs.Scales.{ends-whole}
+use Rattle.scales.specs.Channel.{scaleAt}
+use Rattle.quantization.specs.Answer.{named, dequantized, orRefused}
+use Rattle.scales.proofs.Known.{channel-known}
+use Rattle.scales.proofs.Scales.{ends-whole}
 use Rattle.quantization_laws.specs.Printed.{printedLow, printedHigh}
 use Rattle.quantization_laws.proofs.Printed.{ends-printed}
 use Rattle.quantization_laws.proofs.Return.{code-returns}

@@ -15,10 +15,10 @@ use Rattle.lists.proofs.Lists.{length-tabulate, getD-tabulate}
 use Rattle.fractions.specs.Fraction.{clamp}
 use Rattle.layout.specs.declared.Layout.{Layout}
 use Rattle.layout.specs.Layout.{topOf, rangeOf, kindOf}
-use Rattle.quantization.specs.declared.scale.Scale.{Scale}
+use Rattle.scales.specs.declared.scale.Scale.{Scale}
 use Rattle.quantization.specs.Code.{codeOf, codeOr, codeOfValue, unclamped, exact}
-use Rattle.quantization.specs.Answer.{scaleAt}
-use Rattle.quantization.proofs.Scales.{ends, ends-le}
+use Rattle.scales.specs.Channel.{scaleAt}
+use Rattle.scales.proofs.Scales.{ends, ends-le}
 use Rattle.line.specs.Point.{inPlace}
 use Rattle.line.specs.Line.{joined, codesWithin}
 use Rattle.encoding.specs.Encode.{valueCode, quantizedOf, allNumbers}

@@ -7,14 +7,14 @@ ghost use lib.ListN.{length};
 ghost use lib.Ieee.{isNan};
 ghost use Rattle.layout.specs.Layout.{validLayout};
 ghost use Rattle.quantization.specs.Code.{codeOf, codeOr};
-ghost use Rattle.quantization.specs.inner.Floats.{Fine};
-ghost use Rattle.quantization.specs.inner.Fitted.{Fitted};
+ghost use Rattle.scales.specs.inner.Floats.{Fine};
+ghost use Rattle.scales.specs.inner.Fitted.{Fitted};
 ghost use Rattle.line.specs.Line.{joined as joinedOf, packedOf};
 ghost use Rattle.lists.specs.Lists.{tabulate};
 ghost use Rattle.encoding.specs.Encode.{quantizedOf, allNumbers};
 use layout::Layout;
-use quantization::Scale;
-use quantization::Scales;
+use scales::Scale;
+use scales::Scales;
 
 // Whether every value is a number. There is no early exit: it costs more than it spares.
 pub(crate) fn all_numbers(values: &[f32]) -> bool

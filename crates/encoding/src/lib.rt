@@ -6,8 +6,8 @@ ghost use Rattle.encoding.specs.Encode.{encodeAnswer, encodeOutput};
 use layout::Layout;
 use line::LineAnswer;
 use line::Point;
-use quantization::LayoutScales;
-use quantization::Scales;
+use scales::LayoutScales;
+use scales::Scales;
 
 mod encode;
 

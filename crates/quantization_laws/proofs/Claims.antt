@@ -17,11 +17,12 @@ use Rattle.layout.specs.Layout.{modelKnown, rangeKnown, rangeOf, depthKnown, ch
 use Rattle.layout.proofs.Depths.{known-between}
 use Rattle.quantization.specs.declared.Dequantized.the-variants.{Refused as NoValue}
 use Rattle.quantization.specs.declared.Quantized.the-variants.{Code, Refused as NoCode}
-use Rattle.quantization.specs.Scale.{lowEnd, highEnd, scaleOf}
-use Rattle.quantization.specs.Value.{valueOf}
+use Rattle.scales.specs.Scale.{lowEnd, highEnd, scaleOf}
+use Rattle.scales.specs.Value.{valueOf}
 use Rattle.quantization.specs.Code.{codeOfValue, codeOf}
-use Rattle.quantization.specs.Answer.{channelKnownAt, channelScale, named, dequantized, orRefused, quantized}
-use Rattle.quantization.proofs.Scales.{ends, ends-whole}
+use Rattle.scales.specs.Channel.{channelKnownAt, channelScale}
+use Rattle.quantization.specs.Answer.{named, dequantized, orRefused, quantized}
+use Rattle.scales.proofs.Scales.{ends, ends-whole}
 use Rattle.quantization_laws.specs.Claims.{Dequantizes, Quantizes, QuantizesOthers, ZeroIsPlus, Returns, ReturnsWithin, ReturnsEvery}
 use Rattle.quantization_laws.specs.Printed.{printedUnclamped, printedLow, printedHigh}
 use Rattle.quantization_laws.specs.Pattern.{patternValue}

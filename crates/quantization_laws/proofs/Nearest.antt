@@ -20,9 +20,9 @@ use Rattle.layout.specs.declared.range.Range.{Range}
 use Rattle.layout.specs.declared.kind.Kind.{Kind}
 use Rattle.layout.specs.Layout.{topOf}
 use Rattle.layout.proofs.Depths.{steps}
-use Rattle.quantization.specs.declared.scale.Scale.{Scale}
-use Rattle.quantization.specs.Scale.{scaleOf}
-use Rattle.quantization.specs.Value.{fractionOf, valueOf}
+use Rattle.scales.specs.declared.scale.Scale.{Scale}
+use Rattle.scales.specs.Scale.{scaleOf}
+use Rattle.scales.specs.Value.{fractionOf, valueOf}
 use Rattle.quantization.specs.Code.{signed, exact}
 use Rattle.quantization.proofs.Codes.{Small}
 use Rattle.quantization_laws.specs.Nearest.{distance, Nearer, NearestTo}

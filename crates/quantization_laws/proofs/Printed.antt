@@ -10,8 +10,8 @@ use Rattle.layout.specs.declared.range.Range.the-variants.{Narrow, Full}
 use Rattle.layout.specs.declared.kind.Kind.{Kind}
 use Rattle.layout.specs.declared.kind.Kind.the-variants.{Brightness, Difference}
 use Rattle.layout.specs.Layout.{stepOf, topOf}
-use Rattle.quantization.specs.Scale.{lowEnd, highEnd, scaleOf}
-use Rattle.quantization.specs.Value.{fractionOf}
+use Rattle.scales.specs.Scale.{lowEnd, highEnd, scaleOf}
+use Rattle.scales.specs.Value.{fractionOf}
 use Rattle.quantization.specs.Code.{unclamped}
 use Rattle.quantization_laws.specs.Printed.{printedValue, printedUnclamped, printedLow, printedHigh}
 

@@ -15,14 +15,14 @@ use Rattle.layout.specs.declared.kind.Kind.the-variants.{Brightness, Difference
 use Rattle.layout.specs.Layout.{stepOf, topOf}
 use Rattle.layout.proofs.Depths.{Steps, steps}
 use Rattle.fractions.specs.Fraction.{bounded}
-use Rattle.quantization.specs.declared.scale.Scale.{Scale}
+use Rattle.scales.specs.declared.scale.Scale.{Scale}
 use Rattle.quantization.specs.declared.code.Coded.the-variants.{Code}
-use Rattle.quantization.specs.Scale.{lowEnd, highEnd, scaleOf}
-use Rattle.quantization.specs.Value.{valueOf}
+use Rattle.scales.specs.Scale.{lowEnd, highEnd, scaleOf}
+use Rattle.scales.specs.Value.{valueOf}
 use Rattle.quantization.specs.Code.{codeOf}
 use Rattle.floats.proofs.Sums.{signedSum}
 use Rattle.quantization.proofs.Codes.{Small, wholeCode, code-of-value, quotient-is}
-use Rattle.quantization.proofs.Scales.{scaleBy, by-step, ends}
+use Rattle.scales.proofs.Scales.{scaleBy, by-step, ends}
 use Rattle.quantization_laws.proofs.Units.{U, Near, unit, unit-lt, kept-near, grid-is, round-value}
 use Rattle.quantization_laws.proofs.Values.{gap, value-rounds}
 

@@ -7,10 +7,10 @@ use lib.Dec.{ltb}
 use lib.IntN.{ℤ, pos, _-ℤ_}
 use lib.Ieee.{binary32, round}
 use Rattle.fractions.proofs.Integers.{minus-cases}
-use Rattle.quantization.specs.declared.scale.Scale.{Scale}
-use Rattle.quantization.specs.Value.{rounded, valueOf}
+use Rattle.scales.specs.declared.scale.Scale.{Scale}
+use Rattle.scales.specs.Value.{rounded, valueOf}
 use Rattle.quantization.specs.Code.{signed}
-use Rattle.quantization.proofs.Quotients.{over-some}
+use Rattle.scales.proofs.Quotients.{over-some}
 
 -- |a - b|
 abbrev pub gap : ℕ → ℕ → ℕ

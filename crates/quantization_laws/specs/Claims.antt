@@ -8,7 +8,8 @@ use Rattle.fractions.specs.Fraction.{bounded, clamp}
 use Rattle.layout.specs.Layout.{rangeOf, kindOf, topOf}
 use Rattle.refusal.specs.Refusal.{notANumber}
 use Rattle.quantization.specs.declared.Quantized.the-variants.{Code, Refused}
-use Rattle.quantization.specs.Answer.{channelKnownAt, named, dequantized, quantized}
+use Rattle.scales.specs.Channel.{channelKnownAt}
+use Rattle.quantization.specs.Answer.{named, dequantized, quantized}
 use Rattle.quantization_laws.specs.Printed.{printedValue, printedUnclamped, printedLow, printedHigh}
 use Rattle.quantization_laws.specs.Nearest.{NearestTo}
 use Rattle.quantization_laws.specs.Pattern.{fieldOf, patternValue}

@@ -7,8 +7,8 @@ use Rattle.layout.specs.declared.range.Range.the-variants.{Narrow, Full}
 use Rattle.layout.specs.declared.kind.Kind.the-variants.{Brightness, Difference}
 use Rattle.layout.specs.Layout.{bitsOf, stepOf, topOf}
 use Rattle.fractions.specs.Fraction.{bounded}
-use Rattle.quantization.specs.declared.scale.Scale.{Scale}
-use Rattle.quantization.specs.Scale.{scaleOf}
+use Rattle.scales.specs.declared.scale.Scale.{Scale}
+use Rattle.scales.specs.Scale.{scaleOf}
 use Rattle.color_equations.specs.declared.weights.Weights.{Weights}
 use Rattle.color_equations.specs.Weights.{greenOf}
 use Rattle.color_line.specs.declared.row.FloatRow.{FloatRow}

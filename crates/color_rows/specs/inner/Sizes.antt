@@ -1,6 +1,6 @@
 -- How large the numbers of the rows may be. Assumes nothing.
 use Prim.Native.Nat.{ℕ, _+_, _*_, _^_, _≤_, _<_}
-use Rattle.quantization.specs.declared.scale.Scale.{Scale}
+use Rattle.scales.specs.declared.scale.Scale.{Scale}
 use Rattle.color_equations.specs.declared.weights.Weights.{Weights}
 use Rattle.color_rows.specs.declared.green.GreenTerms.{GreenTerms}
 use Rattle.color_rows.specs.declared.green.Ratio.{Ratio}

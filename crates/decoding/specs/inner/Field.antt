@@ -3,8 +3,8 @@ use Prim.Native.Nat.{ℕ}
 use lib.Ieee.{Float}
 use Rattle.layout.specs.declared.Layout.{Layout}
 use Rattle.layout.specs.Layout.{offsetOf}
-use Rattle.quantization.specs.Value.{valueOf}
-use Rattle.quantization.specs.Answer.{scaleAt}
+use Rattle.scales.specs.Value.{valueOf}
+use Rattle.scales.specs.Channel.{scaleAt}
 use Rattle.line.specs.Point.{bits}
 
 -- the value of channel j of a point whose number is v

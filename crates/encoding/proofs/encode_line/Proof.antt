@@ -9,8 +9,8 @@ use borrow.Author.Tests.{not-true, not-false}
 use lib.ListN.{length}
 use Rattle.layout.specs.Layout.{validLayout}
 use Rattle.layout.proofs.Facts.{valid-says}
-use Rattle.quantization.specs.inner.Fitted.{Fitted}
-use Rattle.quantization.proofs.Scales.{scales-told, scales-unknown}
+use Rattle.scales.specs.inner.Fitted.{Fitted}
+use Rattle.scales.proofs.Scales.{scales-told, scales-unknown}
 use Rattle.line.proofs.Answers.{refuses, counts, fits}
 use Rattle.encoding.proofs.Answers.{encode-outside, encode-unfit, encode-not-number, encode-points}
 use Rattle.encoding.proofs.encode_line.Statement.{statement}

@@ -7,7 +7,7 @@ use native.Mathlib.Omega.{arith}
 use lib.ListN.{length}
 use Rattle.layout.specs.Layout.{validLayout}
 use Rattle.layout.proofs.Facts.{Valid, valid-says}
-use Rattle.quantization.specs.inner.Fitted.{Fitted}
+use Rattle.scales.specs.inner.Fitted.{Fitted}
 use Rattle.decoding.proofs.points.all.Statement.{statement}
 use Rattle.decoding.proofs.points.all.Tie as tie
 

@@ -6,7 +6,7 @@ use native.Mathlib.Nat.{add-zero}
 use native.Mathlib.Omega.{arith}
 use lib.Dec.{lit<}
 use lib.ListN.{getD}
-use Rattle.quantization.proofs.Scales.{fine-at}
+use Rattle.scales.proofs.Scales.{fine-at}
 use Rattle.packing.proofs.Fills.{join-is}
 use Rattle.encoding.specs.Encode.{quantizedOf}
 use Rattle.encoding.proofs.Encodes.{number-at, placed, joined-by}

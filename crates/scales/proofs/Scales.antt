@@ -1,0 +1,104 @@
+-- The scales that the code makes, by the depth's step, and those of a layout. Assumes nothing.
+use mathlib.Core.Path.{_≡_, refl, sym, ap, _∙_, subst}
+use mathlib.Core.Bool.{Bool, true, false, cond, _&&_}
+use Prim.Native.Nat.{ℕ, _+_, _-_, _*_, _/_, _^_, _≤_}
+use native.Mathlib.Omega.{arith}
+use Rattle.layout.specs.declared.Layout.{Layout}
+use Rattle.layout.specs.declared.range.Range.{Range}
+use Rattle.layout.specs.declared.range.Range.the-variants.{Narrow, Full}
+use Rattle.layout.specs.declared.kind.Kind.{Kind}
+use Rattle.layout.specs.declared.kind.Kind.the-variants.{Brightness, Difference}
+use Rattle.layout.specs.Layout.{modelKnown, rangeKnown, rangeOf, depthKnown, channelKnown, kindOf, stepOf, topOf, validLayout}
+use Rattle.lists.proofs.Tests.{and-left, and-right}
+use Rattle.layout.proofs.Facts.{valid-says}
+use Rattle.layout.proofs.Depths.{Steps, steps, known-between}
+use Rattle.scales.specs.declared.scale.Scale.{Scale}
+use Rattle.scales.specs.declared.scale.Rounding.the-variants.{HalfUp, HalfAway}
+use Rattle.scales.specs.declared.scale.ChannelScale.the-variants.{Known as AsScale}
+use Rattle.scales.specs.declared.channels.Scales.{Scales}
+use Rattle.scales.specs.declared.channels.LayoutScales.the-variants.{Known, Unknown}
+use Rattle.scales.specs.Scale.{lowEnd, highEnd, scaleOf}
+use Rattle.scales.specs.Channel.{scaleAt, knownScale}
+use Rattle.scales.specs.Scales.{scalesOf, knownScales}
+use Rattle.scales.specs.inner.Floats.{Fine}
+use Rattle.scales.specs.inner.Fitted.{Fitted}
+use Rattle.scales.proofs.Known.{scale-told}
+
+-- what the code makes of a step, a highest code and two ends
+abbrev pub scaleBy : Range → (s m low high : ℕ) → Kind → Scale
+scaleBy Narrow s m low high Brightness = record { base = 16 * s; span = 219 * s; top = m; low = low; high = high; rounding = HalfUp }
+scaleBy Narrow s m low high Difference = record { base = 128 * s; span = 224 * s; top = m; low = low; high = high; rounding = HalfUp }
+scaleBy Full s m low high Brightness = record { base = 0; span = m; top = m; low = low; high = high; rounding = HalfAway }
+scaleBy Full s m low high Difference = record { base = (m + 1) / 2; span = m; top = m; low = low; high = high; rounding = HalfAway }
+
+pub by-step : (r : Range) (k : Kind) (n : ℕ) → Steps n → scaleBy r (stepOf n) (topOf n) (lowEnd r n) (highEnd r n) k ≡ scaleOf r n k
+unfolding scaleOf
+by-step Narrow Brightness n h = refl
+by-step Narrow Difference n h = refl
+by-step Full Brightness n h = refl
+by-step Full Difference n h =
+    let e : (topOf n + 1) / 2 ≡ 2 ^ (n - 1) = omega arith in
+    rw e
+
+-- the ends of a scale are those of its range, for both kinds
+pub ends : (r : Range) (k : Kind) (n : ℕ) → (scaleOf r n k .low ≡ lowEnd r n) × (scaleOf r n k .high ≡ highEnd r n)
+unfolding scaleOf
+ends Narrow Brightness n = (refl, refl)
+ends Narrow Difference n = (refl, refl)
+ends Full Brightness n = (refl, refl)
+ends Full Difference n = (refl, refl)
+
+-- no end is above the highest code
+pub ends-le : (r : Range) (n : ℕ) → (lowEnd r n ≤ topOf n) × (highEnd r n ≤ topOf n)
+ends-le Narrow n = (omega arith, omega arith)
+ends-le Full n = (omega arith, omega arith)
+
+-- they are 0 and the highest code
+pub ends-whole : (r : Range) (n : ℕ) → (lowEnd r n ≡ 0) × (highEnd r n ≡ topOf n)
+ends-whole Narrow n = (refl, refl)
+ends-whole Full n = (refl, refl)
+
+-- every scale of the paper is one that f64 has room for
+pub fine : (r : Range) (k : Kind) (n : ℕ) → Steps n → Fine (scaleOf r n k)
+unfolding scaleOf
+fine Narrow Brightness n h = record { some = omega arith; span = omega arith; base = omega arith; order = omega arith; high = omega arith }
+fine Narrow Difference n h = record { some = omega arith; span = omega arith; base = omega arith; order = omega arith; high = omega arith }
+fine Full Brightness n h = record { some = omega arith; span = omega arith; base = omega arith; order = omega arith; high = omega arith }
+fine Full Difference n h = record { some = omega arith; span = omega arith; base = omega arith; order = omega arith; high = omega arith }
+
+pub fine-known : (model range n channel : ℕ) {sc : Scale} → knownScale model range n channel ≡ AsScale sc → Fine sc
+fine-known model range n channel e =
+    let told = scale-told model range n channel e in
+    let m = modelKnown model in
+    let r = rangeKnown range in
+    let d = known-between n (and-right (m && r) (depthKnown n) (and-left (m && r && depthKnown n) (channelKnown channel) (told .0))) in
+    subst Fine (sym (told .1)) (fine (rangeOf range) (kindOf model channel) n (steps n (d .0) (d .1)))
+
+pub fine-at : (l : Layout) (j : ℕ) (sc : Scale) → validLayout l ≡ true → sc ≡ scaleAt l j → Fine sc
+fine-at l j sc ok e = let v = valid-says l ok in subst Fine (sym e) (fine (rangeOf (l .range)) (kindOf (l .model) j) (l .depth) (steps (l .depth) (v .depth-least) (v .depth-most)))
+
+-- ---- the scales of a layout
+module _ (l : Layout) where
+  pub no-scales : validLayout l ≡ false → Unknown ≡ knownScales l
+  no-scales e = sym (ap (λ (t : Bool). cond t (Known (scalesOf l)) Unknown) e)
+
+  pub scales-are : {r : Range} {bits : ℕ} → validLayout l ≡ true → r ≡ rangeOf (l .range) → bits ≡ l .depth
+      → Known (record { channel0 = scaleOf r bits (kindOf (l .model) 0); channel1 = scaleOf r bits (kindOf (l .model) 1); channel2 = scaleOf r bits (kindOf (l .model) 2) }) ≡ knownScales l
+  scales-are ok e f =
+      (λ i. Known (record { channel0 = scaleOf (e i) (f i) (kindOf (l .model) 0); channel1 = scaleOf (e i) (f i) (kindOf (l .model) 1); channel2 = scaleOf (e i) (f i) (kindOf (l .model) 2) }))
+      ∙ sym (ap (λ (t : Bool). cond t (Known (scalesOf l)) Unknown) ok)
+
+  -- and for who asked
+  pub scales-told : {s : Scales} → knownScales l ≡ Known s → (validLayout l ≡ true) × Fitted l s
+  scales-told {s} e = go (validLayout l) e
+    where
+      go : (t : Bool) → cond t (Known (scalesOf l)) Unknown ≡ Known s → (t ≡ true) × Fitted l s
+      go true e = let f : s ≡ scalesOf l = cc in (refl, record { fitted0 = ap (λ (x : Scales). x .channel0) f; fitted1 = ap (λ (x : Scales). x .channel1) f; fitted2 = ap (λ (x : Scales). x .channel2) f })
+      go false e = let z : _≡_ {A = ℕ} 0 1 = cc in absurd (omega arith)
+
+  pub scales-unknown : knownScales l ≡ Unknown → validLayout l ≡ false
+  scales-unknown e = go (validLayout l) e
+    where
+      go : (t : Bool) → cond t (Known (scalesOf l)) Unknown ≡ Unknown → t ≡ false
+      go true e = let z : _≡_ {A = ℕ} 0 1 = cc in absurd (omega arith)
+      go false e = refl

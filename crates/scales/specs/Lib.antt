@@ -1,0 +1,5 @@
+pub mod Scale
+pub mod Channel
+pub mod Scales
+pub mod Value
+pub mod inner

@@ -1,0 +1,25 @@
+-- Document 01, "Codes and floats": one record for each range, depth and kind. Assumes nothing.
+use Prim.Native.Nat.{ℕ, _-_, _*_, _^_}
+use Rattle.layout.specs.declared.range.Range.{Range}
+use Rattle.layout.specs.declared.range.Range.the-variants.{Narrow, Full}
+use Rattle.layout.specs.declared.kind.Kind.{Kind}
+use Rattle.layout.specs.declared.kind.Kind.the-variants.{Brightness, Difference}
+use Rattle.layout.specs.Layout.{stepOf, topOf}
+use Rattle.scales.specs.declared.scale.Scale.{Scale}
+use Rattle.scales.specs.declared.scale.Rounding.the-variants.{HalfUp, HalfAway}
+
+-- the ends that a code is clamped to: 0 .. 2^n - 1, in both ranges
+abbrev pub lowEnd : Range → ℕ → ℕ
+lowEnd Narrow n = 0
+lowEnd Full n = 0
+
+abbrev pub highEnd : Range → ℕ → ℕ
+highEnd Narrow n = topOf n
+highEnd Full n = topOf n
+
+-- A code c, of 0 .. top, stands for (c - base) / span, and a value v gets the code span * v + base, rounded and clamped to low .. high.
+unfoldable pub scaleOf : Range → ℕ → Kind → Scale
+scaleOf Narrow n Brightness = record { base = 16 * stepOf n; span = 219 * stepOf n; top = topOf n; low = lowEnd Narrow n; high = highEnd Narrow n; rounding = HalfUp }
+scaleOf Narrow n Difference = record { base = 128 * stepOf n; span = 224 * stepOf n; top = topOf n; low = lowEnd Narrow n; high = highEnd Narrow n; rounding = HalfUp }
+scaleOf Full n Brightness = record { base = 0; span = topOf n; top = topOf n; low = lowEnd Full n; high = highEnd Full n; rounding = HalfAway }
+scaleOf Full n Difference = record { base = 2 ^ (n - 1); span = topOf n; top = topOf n; low = lowEnd Full n; high = highEnd Full n; rounding = HalfAway }

@@ -1,0 +1,15 @@
+-- Document 01, "Codes and floats": the scales of a layout's three channels. Assumes nothing.
+use mathlib.Core.Bool.{cond}
+use Rattle.layout.specs.declared.Layout.{Layout}
+use Rattle.layout.specs.Layout.{validLayout}
+use Rattle.scales.specs.declared.channels.Scales.{Scales}
+use Rattle.scales.specs.declared.channels.LayoutScales.{LayoutScales}
+use Rattle.scales.specs.declared.channels.LayoutScales.the-variants.{Known, Unknown}
+use Rattle.scales.specs.Channel.{scaleAt}
+
+abbrev pub scalesOf : Layout → Scales
+scalesOf l = record { channel0 = scaleAt l 0; channel1 = scaleAt l 1; channel2 = scaleAt l 2 }
+
+-- or that the paper has no such layout
+abbrev pub knownScales : Layout → LayoutScales
+knownScales l = cond (validLayout l) (Known (scalesOf l)) Unknown

@@ -1,0 +1,49 @@
+// The scales of a layout's three channels, worked out once for a line.
+ghost use mathlib.Core.Path.{_≡_};
+ghost use Rattle.scales.specs.Scales.{knownScales};
+use crate::scale::Scale;
+use layout::Depth;
+use layout::Kind;
+use layout::KnownDepth;
+use layout::KnownRange;
+use layout::Layout;
+use layout::Range;
+
+pub struct Scales {
+    pub channel0: Scale,
+    pub channel1: Scale,
+    pub channel2: Scale,
+}
+
+// The scales of a layout, or that the paper has no such layout.
+pub enum LayoutScales {
+    Known(Scales),
+    Unknown,
+}
+
+impl Scales {
+    // The scales of a layout's three channels. The layout is tested here, so that an entry tests it once. (A valid layout's
+    // range and depth are known: the other two arms are never taken.)
+    pub fn of(layout: Layout) -> LayoutScales
+        ensures { λ r. ⌜ r ≡ knownScales layout ⌝ }
+    {
+        if !layout.valid() {
+            return LayoutScales::Unknown;
+        }
+        let KnownRange::Known(range) = Range::of(layout.range) else {
+            return LayoutScales::Unknown;
+        };
+        let KnownDepth::Known(depth) = Depth::of(layout.depth) else {
+            return LayoutScales::Unknown;
+        };
+        let model = layout.model;
+        let channel0 = Scale::of(range, depth, Kind::of(model, 0));
+        let channel1 = Scale::of(range, depth, Kind::of(model, 1));
+        let channel2 = Scale::of(range, depth, Kind::of(model, 2));
+        LayoutScales::Known(Scales {
+            channel0,
+            channel1,
+            channel2,
+        })
+    }
+}

@@ -1,0 +1,127 @@
+// How the codes of one range, depth and kind stand for values: worked out once for a line of them.
+ghost use mathlib.Core.Path.{_≡_};
+ghost use Rattle.layout.specs.Layout.{bitsOf};
+ghost use Rattle.scales.specs.Scale.{lowEnd, highEnd, scaleOf};
+ghost use Rattle.scales.specs.Value.{valueOf};
+ghost use Rattle.scales.specs.Channel.{knownScale};
+use layout::Depth;
+use layout::Kind;
+use layout::KnownDepth;
+use layout::KnownRange;
+use layout::Range;
+
+// How a number between two codes is rounded: floor(1/2 + x), or Round(x), a half away from zero.
+pub enum Rounding {
+    HalfUp,
+    HalfAway,
+}
+
+// `base` is the code of the value 0, `span` the codes in a unit of value, `top` the highest code, `low` and `high` the ends
+// that the code of a value is clamped to. `rounding` says which of the paper's roundings the definition has; clamped at 0 or
+// above the two give one code, so that the code does not look at it.
+pub struct Scale {
+    pub base: u16,
+    pub span: u16,
+    pub top: u16,
+    pub low: u16,
+    pub high: u16,
+    pub rounding: Rounding,
+}
+
+// The scale of a channel, or that the paper has no such channel.
+pub enum ChannelScale {
+    Known(Scale),
+    Unknown,
+}
+
+// The ends that a code is clamped to: 0 .. 2^n - 1, in both ranges.
+fn low_end(range: Range, depth: Depth) -> u16
+    ensures { λ r. ⌜ r ≡ lowEnd range (bitsOf depth) ⌝ }
+{
+    match range {
+        Range::Narrow => 0,
+        Range::Full => 0,
+    }
+}
+
+fn high_end(range: Range, depth: Depth) -> u16
+    ensures { λ r. ⌜ r ≡ highEnd range (bitsOf depth) ⌝ }
+{
+    match range {
+        Range::Narrow => depth.top(),
+        Range::Full => depth.top(),
+    }
+}
+
+impl Scale {
+    // The paper's scale of a range, depth and kind.
+    pub fn of(range: Range, depth: Depth, kind: Kind) -> Scale
+        ensures { λ r. ⌜ r ≡ scaleOf range (bitsOf depth) kind ⌝ }
+    {
+        let s = depth.step();
+        let m = depth.top();
+        let low = low_end(range, depth);
+        let high = high_end(range, depth);
+        match range {
+            Range::Narrow => match kind {
+                Kind::Brightness => Scale {
+                    base: 16 * s,
+                    span: 219 * s,
+                    top: m,
+                    low,
+                    high,
+                    rounding: Rounding::HalfUp,
+                },
+                Kind::Difference => Scale {
+                    base: 128 * s,
+                    span: 224 * s,
+                    top: m,
+                    low,
+                    high,
+                    rounding: Rounding::HalfUp,
+                },
+            },
+            Range::Full => match kind {
+                Kind::Brightness => Scale {
+                    base: 0,
+                    span: m,
+                    top: m,
+                    low,
+                    high,
+                    rounding: Rounding::HalfAway,
+                },
+                Kind::Difference => Scale {
+                    base: (m + 1) / 2,
+                    span: m,
+                    top: m,
+                    low,
+                    high,
+                    rounding: Rounding::HalfAway,
+                },
+            },
+        }
+    }
+
+    // The scale of a channel, by the paper's numbers.
+    pub fn of_channel(model: u8, range: u8, depth: u8, channel: u8) -> ChannelScale
+        ensures { λ r. ⌜ r ≡ knownScale model range depth channel ⌝ }
+    {
+        if !(layout::model_known(model) & layout::channel_known(channel)) {
+            return ChannelScale::Unknown;
+        }
+        let KnownRange::Known(of_range) = Range::of(range) else {
+            return ChannelScale::Unknown;
+        };
+        let KnownDepth::Known(of_depth) = Depth::of(depth) else {
+            return ChannelScale::Unknown;
+        };
+        ChannelScale::Known(Scale::of(of_range, of_depth, Kind::of(model, channel)))
+    }
+
+    // The value of a code: whole numbers that f32 holds exactly, and one division.
+    pub fn value(self, code: u16) -> f32
+        ensures { λ r. ⌜ r ≡ valueOf self code ⌝ }
+    {
+        (code as i32 - self.base as i32) as f32 / self.span as f32
+    }
+}
