@@ -37,8 +37,8 @@ pub fn read(bytes: &[u8], edition: u8) -> CardReading
     if !front::front_right(bytes, facts) {
         return CardReading::Refused(refusal::OUTSIDE);
     }
-    // Both tests before either answer: past one more return the compiler takes the second for rare and does not inline it,
-    // and `read` takes twice as long.
+    // Both tests come before either answer. With a return between them the compiler takes the second test to be rare, does
+    // not inline it, and `read` takes twice as long.
     let unknown = access::unknown(bytes[1], bytes[24], edition);
     let wrong = end::end_wrong(bytes, edition);
     if unknown {

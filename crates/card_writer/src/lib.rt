@@ -25,6 +25,7 @@ pub fn write(edition: u8, facts: Facts, out: &mut [u8]) -> Written
     if !edition::known(edition) {
         return Written::Refused(refusal::UNKNOWN_EDITION);
     }
+    // Both tests come before either answer, so that the compiler inlines both.
     let valid = facts.valid();
     let late = unwritable(edition, facts);
     if !valid {

@@ -1,4 +1,4 @@
--- The code of a number as the code works it out, in f64. A reader need not believe it: proofs/Codes.antt shows that of an f32, on a scale of the paper, it is `codeOf`. Assumes nothing.
+-- The code of a number as the code works it out, in f64. A reader need not believe it: crates/quantization/proofs/Codes.antt shows that of an f32, on a scale of the paper, it is `codeOf`. Assumes nothing.
 use Prim.Native.Nat.{ℕ, _+_, _*_, _≤_, _<_}
 use lib.IntN.{pos, negsuc}
 use lib.Ieee.{Float, fin, binary64, mul, add, ofInt}
