@@ -1,16 +1,17 @@
 -- What a number's range and depth say of the number. Assumes nothing.
-use mathlib.Core.Path.{_≡_, refl, ap, _∙_}
+use mathlib.Core.Path.{_≡_, refl, sym, ap, _∙_}
 use mathlib.Core.Bool.{Bool, true, false, cond, _||_, true≢false}
 use Prim.Native.Nat.{ℕ}
 use native.Mathlib.Omega.{arith}
+use borrow.Author.Tests.{eqb-true}
 use lib.Dec.{eqb}
 use Rattle.layout.specs.declared.range.Range.{Range}
-use Rattle.layout.specs.declared.range.Range.the-variants.{Narrow, Full}
+use Rattle.layout.specs.declared.range.Range.the-variants.{Narrow, Full, LegacyFull}
 use Rattle.layout.specs.declared.range.KnownRange.the-variants.{Known as AsRange, Unknown as NoRange}
 use Rattle.layout.specs.declared.depth.Depth.{Depth}
 use Rattle.layout.specs.declared.depth.Depth.the-variants.{Eight, Ten, Twelve}
 use Rattle.layout.specs.declared.depth.KnownDepth.the-variants.{Known as AsDepth, Unknown as NoDepth}
-use Rattle.layout.specs.Layout.{rangeKnown, rangeOf, knownRange, depthKnown, depthOf, bitsOf, knownDepth}
+use Rattle.layout.specs.Layout.{rangeNumber, rangeKnown, rangeOf, knownRange, depthKnown, depthOf, bitsOf, knownDepth}
 use Rattle.layout.proofs.Depths.{known-bits}
 
 pub range-told : (n : ℕ) {r : Range} → knownRange n ≡ AsRange r → (rangeKnown n ≡ true) × (r ≡ rangeOf n)
@@ -28,12 +29,23 @@ range-unknown n e = go (rangeKnown n) e
     go false e = refl
 
 -- what the definitions take any other number for
-pub range-else : (n : ℕ) → rangeKnown n ≡ false → rangeOf n ≡ Full
-range-else n e = go (eqb n 1) e
+pub range-else : (n : ℕ) → rangeKnown n ≡ false → rangeOf n ≡ LegacyFull
+range-else n e = go (eqb n 1) (eqb n 2) e
   where
-    go : (a : Bool) → a || eqb n 2 ≡ false → cond a Narrow Full ≡ Full
-    go true e = absurd (true≢false e)
-    go false e = refl
+    go : (a b : Bool) → a || b || eqb n 3 ≡ false → cond a Narrow (cond b Full LegacyFull) ≡ LegacyFull
+    go true b e = absurd (true≢false e)
+    go false true e = absurd (true≢false e)
+    go false false e = refl
+
+-- a known number is the number of its range
+pub range-number : (n : ℕ) → rangeKnown n ≡ true → rangeNumber (rangeOf n) ≡ n
+range-number n e = go (eqb n 1) (eqb n 2) (eqb n 3) refl refl refl e
+  where
+    go : (a b c : Bool) → eqb n 1 ≡ a → eqb n 2 ≡ b → eqb n 3 ≡ c → a || b || c ≡ true → rangeNumber (cond a Narrow (cond b Full LegacyFull)) ≡ n
+    go true b c p q r e = sym (eqb-true n 1 p)
+    go false true c p q r e = sym (eqb-true n 2 q)
+    go false false true p q r e = sym (eqb-true n 3 r)
+    go false false false p q r e = absurd (true≢false (sym e))
 
 pub depth-told : (n : ℕ) {d : Depth} → knownDepth n ≡ AsDepth d → (depthKnown n ≡ true) × (d ≡ depthOf n)
 depth-told n {d} e = go (depthKnown n) refl e

@@ -3,9 +3,11 @@ use mathlib.Core.Path.{_≡_, refl, sym, ap, _∙_, subst}
 use mathlib.Core.Bool.{Bool, true, false, cond, _&&_}
 use Prim.Native.Nat.{ℕ, _+_, _-_, _*_, _/_, _^_, _≤_}
 use native.Mathlib.Omega.{arith}
+use borrow.Author.Tests.{eqb-true}
+use lib.Dec.{eqb, lit≤}
 use Rattle.layout.specs.declared.Layout.{Layout}
 use Rattle.layout.specs.declared.range.Range.{Range}
-use Rattle.layout.specs.declared.range.Range.the-variants.{Narrow, Full}
+use Rattle.layout.specs.declared.range.Range.the-variants.{Narrow, Full, LegacyFull}
 use Rattle.layout.specs.declared.kind.Kind.{Kind}
 use Rattle.layout.specs.declared.kind.Kind.the-variants.{Brightness, Difference}
 use Rattle.layout.specs.Layout.{modelKnown, rangeKnown, rangeOf, depthKnown, channelKnown, kindOf, stepOf, topOf, validLayout}
@@ -30,6 +32,8 @@ scaleBy Narrow s m low high Brightness = record { base = 16 * s; span = 219 * s;
 scaleBy Narrow s m low high Difference = record { base = 128 * s; span = 224 * s; top = m; low = low; high = high; rounding = HalfUp }
 scaleBy Full s m low high Brightness = record { base = 0; span = m; top = m; low = low; high = high; rounding = HalfAway }
 scaleBy Full s m low high Difference = record { base = (m + 1) / 2; span = m; top = m; low = low; high = high; rounding = HalfAway }
+scaleBy LegacyFull s m low high Brightness = record { base = 0; span = m + 1; top = m; low = low; high = high; rounding = HalfUp }
+scaleBy LegacyFull s m low high Difference = record { base = (m + 1) / 2; span = m + 1; top = m; low = low; high = high; rounding = HalfUp }
 
 pub by-step : (r : Range) (k : Kind) (n : ℕ) → Steps n → scaleBy r (stepOf n) (topOf n) (lowEnd r n) (highEnd r n) k ≡ scaleOf r n k
 unfolding scaleOf
@@ -39,6 +43,13 @@ by-step Full Brightness n h = refl
 by-step Full Difference n h =
     let e : (topOf n + 1) / 2 ≡ 2 ^ (n - 1) = omega arith in
     rw e
+by-step LegacyFull Brightness n h =
+    let e : topOf n + 1 ≡ 2 ^ n = omega (arith, h) in
+    rw e
+by-step LegacyFull Difference n h =
+    let e : topOf n + 1 ≡ 2 ^ n = omega (arith, h) in
+    let f : 2 ^ n / 2 ≡ 2 ^ (n - 1) = omega (arith, h) in
+    rw (e, f)
 
 -- the ends of a scale are those of its range, for both kinds
 pub ends : (r : Range) (k : Kind) (n : ℕ) → (scaleOf r n k .low ≡ lowEnd r n) × (scaleOf r n k .high ≡ highEnd r n)
@@ -47,16 +58,22 @@ ends Narrow Brightness n = (refl, refl)
 ends Narrow Difference n = (refl, refl)
 ends Full Brightness n = (refl, refl)
 ends Full Difference n = (refl, refl)
+ends LegacyFull Brightness n = (refl, refl)
+ends LegacyFull Difference n = (refl, refl)
+
+-- the 4092 of 12 bits is below 2^12 - 1
+legacy-le : (n : ℕ) → highEnd LegacyFull n ≤ topOf n
+legacy-le n = go (eqb n 12) refl
+  where
+    go : (t : Bool) → eqb n 12 ≡ t → cond t 4092 (topOf n) ≤ topOf n
+    go true e = subst (λ (k : ℕ). 4092 ≤ topOf k) (sym (eqb-true n 12 e)) (lit≤ tt)
+    go false e = omega arith
 
 -- no end is above the highest code
 pub ends-le : (r : Range) (n : ℕ) → (lowEnd r n ≤ topOf n) × (highEnd r n ≤ topOf n)
 ends-le Narrow n = (omega arith, omega arith)
 ends-le Full n = (omega arith, omega arith)
-
--- they are 0 and the highest code
-pub ends-whole : (r : Range) (n : ℕ) → (lowEnd r n ≡ 0) × (highEnd r n ≡ topOf n)
-ends-whole Narrow n = (refl, refl)
-ends-whole Full n = (refl, refl)
+ends-le LegacyFull n = (omega arith, legacy-le n)
 
 -- every scale of the paper is one that f64 has room for
 pub fine : (r : Range) (k : Kind) (n : ℕ) → Steps n → Fine (scaleOf r n k)
@@ -65,6 +82,8 @@ fine Narrow Brightness n h = record { some = omega arith; span = omega arith; ba
 fine Narrow Difference n h = record { some = omega arith; span = omega arith; base = omega arith; order = omega arith; high = omega arith }
 fine Full Brightness n h = record { some = omega arith; span = omega arith; base = omega arith; order = omega arith; high = omega arith }
 fine Full Difference n h = record { some = omega arith; span = omega arith; base = omega arith; order = omega arith; high = omega arith }
+fine LegacyFull Brightness n h = record { some = omega arith; span = omega arith; base = omega arith; order = omega arith; high = omega (arith, legacy-le n) }
+fine LegacyFull Difference n h = record { some = omega arith; span = omega arith; base = omega arith; order = omega arith; high = omega (arith, legacy-le n) }
 
 pub fine-known : (model range n channel : ℕ) {sc : Scale} → knownScale model range n channel ≡ AsScale sc → Fine sc
 fine-known model range n channel e =

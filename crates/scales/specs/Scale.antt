@@ -1,21 +1,25 @@
--- Document 01, "Codes and floats": one record for each range, depth and kind. Assumes nothing.
+-- Document 01, "Codes and floats", with request A1's range 3: one record for each range, depth and kind. Assumes nothing.
 use Prim.Native.Nat.{ℕ, _-_, _*_, _^_}
+use mathlib.Core.Bool.{cond}
+use lib.Dec.{eqb}
 use Rattle.layout.specs.declared.range.Range.{Range}
-use Rattle.layout.specs.declared.range.Range.the-variants.{Narrow, Full}
+use Rattle.layout.specs.declared.range.Range.the-variants.{Narrow, Full, LegacyFull}
 use Rattle.layout.specs.declared.kind.Kind.{Kind}
 use Rattle.layout.specs.declared.kind.Kind.the-variants.{Brightness, Difference}
 use Rattle.layout.specs.Layout.{stepOf, topOf}
 use Rattle.scales.specs.declared.scale.Scale.{Scale}
 use Rattle.scales.specs.declared.scale.Rounding.the-variants.{HalfUp, HalfAway}
 
--- the ends that a code is clamped to: 0 .. 2^n - 1, in both ranges
+-- the ends that a code is clamped to: 0 .. 2^n - 1, but in the older full range 4092 at 12 bits (A1: 255, 1023 and 4092)
 abbrev pub lowEnd : Range → ℕ → ℕ
 lowEnd Narrow n = 0
 lowEnd Full n = 0
+lowEnd LegacyFull n = 0
 
 abbrev pub highEnd : Range → ℕ → ℕ
 highEnd Narrow n = topOf n
 highEnd Full n = topOf n
+highEnd LegacyFull n = cond (eqb n 12) 4092 (topOf n)
 
 -- A code c, of 0 .. top, stands for (c - base) / span, and a value v gets the code span * v + base, rounded and clamped to low .. high.
 unfoldable pub scaleOf : Range → ℕ → Kind → Scale
@@ -23,3 +27,5 @@ scaleOf Narrow n Brightness = record { base = 16 * stepOf n; span = 219 * stepOf
 scaleOf Narrow n Difference = record { base = 128 * stepOf n; span = 224 * stepOf n; top = topOf n; low = lowEnd Narrow n; high = highEnd Narrow n; rounding = HalfUp }
 scaleOf Full n Brightness = record { base = 0; span = topOf n; top = topOf n; low = lowEnd Full n; high = highEnd Full n; rounding = HalfAway }
 scaleOf Full n Difference = record { base = 2 ^ (n - 1); span = topOf n; top = topOf n; low = lowEnd Full n; high = highEnd Full n; rounding = HalfAway }
+scaleOf LegacyFull n Brightness = record { base = 0; span = 2 ^ n; top = topOf n; low = lowEnd LegacyFull n; high = highEnd LegacyFull n; rounding = HalfUp }
+scaleOf LegacyFull n Difference = record { base = 2 ^ (n - 1); span = 2 ^ n; top = topOf n; low = lowEnd LegacyFull n; high = highEnd LegacyFull n; rounding = HalfUp }

@@ -34,13 +34,14 @@ pub enum ChannelScale {
     Unknown,
 }
 
-// The ends that a code is clamped to: 0 .. 2^n - 1, in both ranges.
+// The ends that a code is clamped to: 0 .. 2^n - 1, but in the older full range 4092 at 12 bits.
 fn low_end(range: Range, depth: Depth) -> u16
     ensures { λ r. ⌜ r ≡ lowEnd range (bitsOf depth) ⌝ }
 {
     match range {
         Range::Narrow => 0,
         Range::Full => 0,
+        Range::LegacyFull => 0,
     }
 }
 
@@ -50,6 +51,11 @@ fn high_end(range: Range, depth: Depth) -> u16
     match range {
         Range::Narrow => depth.top(),
         Range::Full => depth.top(),
+        Range::LegacyFull => match depth {
+            Depth::Eight => 255,
+            Depth::Ten => 1023,
+            Depth::Twelve => 4092,
+        },
     }
 }
 
@@ -60,6 +66,7 @@ impl Scale {
     {
         let s = depth.step();
         let m = depth.top();
+        let whole = m + 1;
         let low = low_end(range, depth);
         let high = high_end(range, depth);
         match range {
@@ -91,12 +98,30 @@ impl Scale {
                     rounding: Rounding::HalfAway,
                 },
                 Kind::Difference => Scale {
-                    base: (m + 1) / 2,
+                    base: whole / 2,
                     span: m,
                     top: m,
                     low,
                     high,
                     rounding: Rounding::HalfAway,
+                },
+            },
+            Range::LegacyFull => match kind {
+                Kind::Brightness => Scale {
+                    base: 0,
+                    span: whole,
+                    top: m,
+                    low,
+                    high,
+                    rounding: Rounding::HalfUp,
+                },
+                Kind::Difference => Scale {
+                    base: whole / 2,
+                    span: whole,
+                    top: m,
+                    low,
+                    high,
+                    rounding: Rounding::HalfUp,
                 },
             },
         }
