@@ -31,7 +31,7 @@ use Rattle.decoding.specs.Decode.{valuesOf, decodeAnswer, decodeOutput}
 use Rattle.decoding.proofs.One.{firstOf, shown, as-line}
 use Rattle.scanline_laws.proofs.Accepted.{fit, unpacking-accepted}
 use Rattle.scanline_laws.proofs.Claims.{packs-what-was-unpacked, unpacks-what-was-packed, unpacks-to-codes, packs-to-bytes, packs-unused-bits-as-zero, encodes-to-codes, counts-empty-lines as empty-lines}
-use Rattle.decoding_laws.specs.Claims.{clampedTo, DecodesLines, LeavesValues, RefusesOtherOutputs, DecodesEachCode, QuantizesWhatWasDecoded, EncodesEachValue, EncodesWhatWasDecoded, ReturnsWithinEnds, EveryCodeWithinEnds, AnyLineReturns, CountsEmptyLines, DecodesPointAsLine, RefusesPointAsLine}
+use Rattle.decoding_laws.specs.Claims.{clampedTo, DecodesLines, LeavesValues, RefusesOtherOutputs, DecodesEachCode, QuantizesWhatWasDecoded, EncodesEachValue, EncodesWhatWasDecoded, ReturnsWithinEnds, EveryCodeWithinEnds, AnyLineComesBack, AnyLineReturns, CountsEmptyLines, DecodesPointAsLine, RefusesPointAsLine}
 use Rattle.decoding_laws.proofs.Values.{clamped-same, number-coded, length-values, codes-back, all-numbers, all-within, as-dequantized, values-of, three}
 
 pub decodes-lines : DecodesLines
@@ -85,8 +85,8 @@ returns-within-ends l n s p w = ap (packedOf l) (codes-back l s (p .valid) ∙ c
 pub every-code-within-ends : EveryCodeWithinEnds
 every-code-within-ends l n s p = all-within l s (p .valid)
 
-pub any-line-returns : AnyLineReturns
-any-line-returns l n s p h floats bytes ef eb =
+pub any-line-comes-back : AnyLineComesBack
+any-line-comes-back l n s p h floats bytes ef eb =
     let vs = valuesOf l s in
     let left : decodeOutput l s floats ≡ vs = leaves-values l n s p h floats ef in
     let f = fit (length vs) 3 (length bytes) (l .bytes) n (lit< tt) (values-of l n s p) (eb ∙ p .points) h in
@@ -95,8 +95,14 @@ any-line-returns l n s p h floats bytes ef eb =
       ap (λ (xs : List Float). encodeAnswer l xs (length bytes)) left ∙ taken,
       ap (λ (xs : List Float). encodeOutput l xs bytes) left
           ∙ ap (λ (a : LineAnswer). newOrKept (accepted a) (packedOf l (quantizedOf l vs)) bytes) taken
-          ∙ returns-within-ends l n s p (all-within l s (p .valid)),
+          ∙ ap (packedOf l) (codes-back l s (p .valid)),
     )
+
+pub any-line-returns : AnyLineReturns
+any-line-returns l n s p h x floats bytes ef eb =
+    any-line-comes-back l n s p h floats bytes ef eb .2
+    ∙ ap (packedOf l) (clamped-same l (codesOf l s) (all-within l s (p .valid) x))
+    ∙ packs-what-was-unpacked l n s p
 
 pub counts-empty-lines : CountsEmptyLines
 unfolding every

@@ -5,13 +5,13 @@ use mathlib.Core.List.{List, [], _∷_, map}
 use Prim.Native.Nat.{ℕ, zero, suc, _*_, _/_, _%_, _^_, _≤_, _<_}
 use native.Mathlib.Nat.{mod-lt, mul-comm, mul-div-cancel}
 use native.Mathlib.Omega.{arith}
-use borrow.Author.Tests.{le-ltb, le-leb, leb-true}
+use borrow.Author.Tests.{le-ltb, le-leb, leb-true, not-true}
 use lib.Dec.{leb}
 use lib.Ieee.{Float, nan, inf, fin, isNan}
 use lib.ListN.{length, getD}
 use lib.Pow.{pow-pos}
 use Rattle.lists.specs.Lists.{tabulate, every}
-use Rattle.lists.proofs.Every.{every-of}
+use Rattle.lists.proofs.Every.{every-of, every-at}
 use Rattle.lists.proofs.Lists.{length-tabulate, getD-tabulate, tabulate-same}
 use Rattle.lists.proofs.Tests.{and3, pass}
 use Rattle.fractions.specs.Fraction.{bounded}
@@ -26,15 +26,14 @@ use Rattle.quantization.specs.Code.{codeOf, codeOr}
 use Rattle.scales.specs.Channel.{scaleAt}
 use Rattle.quantization.specs.Answer.{named, dequantized, orRefused}
 use Rattle.scales.proofs.Known.{channel-known}
-use Rattle.scales.proofs.Scales.{ends-whole}
-use Rattle.quantization_laws.specs.Printed.{printedLow, printedHigh}
-use Rattle.quantization_laws.proofs.Printed.{ends-printed}
+use Rattle.quantization_laws.specs.Printed.{printedLow, printedHigh, excluded}
+use Rattle.quantization_laws.proofs.Printed.{ends-printed, within-ends}
 use Rattle.quantization_laws.proofs.Return.{code-returns}
 use Rattle.line.specs.Point.{pointOf}
 use Rattle.line.specs.Line.{codeAt, codesOf, PackedLine}
 use Rattle.encoding.specs.Encode.{valueCode, quantizedOf, allNumbers}
 use Rattle.decoding.specs.Decode.{valueAt, valuesOf}
-use Rattle.decoding_laws.specs.Claims.{clampedTo, withinEnds}
+use Rattle.decoding_laws.specs.Claims.{clampedTo, withinEnds, noneExcluded}
 
 -- what has a code is a number
 has-code : (sc : Scale) (v : Float) (c : ℕ) → codeOf sc v ≡ Code c → not (isNan v) ≡ true
@@ -93,7 +92,7 @@ module _ (l : Layout) (s : List ℕ) where
     code-back k h =
         let r = valid-says l ok in
         let range = rangeOf (l .range) in
-        let f = ends-printed range (l .depth) in
+        let f = ends-printed range (l .depth) (r .depth) in
         ap (codeOf (scaleAt l (k % 3))) (value-at k h)
         ∙ code-returns range (kindOf (l .model) (k % 3)) (l .depth) (codeAt l s k) (r .depth-least) (r .depth-most) (code-le k)
         ∙ ap₂ (λ (low high : ℕ). Code (bounded low high (codeAt l s k))) (f .0) (f .1)
@@ -108,14 +107,15 @@ module _ (l : Layout) (s : List ℕ) where
     pub all-numbers : allNumbers (valuesOf l s) ≡ true
     all-numbers = every-of (λ v. not (isNan v)) nan (valuesOf l s) (λ k h. has-code (scaleAt l (k % 3)) (getD (valuesOf l s) k nan) (clampedTo l (codeAt l s k)) (code-back k h))
 
-    -- every code lies within the ends
-    pub all-within : withinEnds l (codesOf l s) ≡ true
+    -- every code that is not excluded lies within the ends
+    pub all-within : noneExcluded l (codesOf l s) ≡ true → withinEnds l (codesOf l s) ≡ true
     unfolding codesOf
-    all-within = every-of (λ c. leb (lowOf l) c && leb c (highOf l)) 0 (codesOf l s) (λ k h.
-        let e : getD (codesOf l s) k 0 ≡ codeAt l s k = getD-tabulate (3 * (length s / l .bytes)) (codeAt l s) k 0 (omega (arith, length-tabulate (3 * (length s / l .bytes)) (codeAt l s))) in
-        let f = ends-printed (rangeOf (l .range)) (l .depth) in
-        let w = ends-whole (rangeOf (l .range)) (l .depth) in
-        ap₂ _&&_ (le-leb (lowOf l) (getD (codesOf l s) k 0) (omega arith)) (le-leb (getD (codesOf l s) k 0) (highOf l) (omega (arith, code-le k))))
+    all-within n = every-of (λ c. leb (lowOf l) c && leb c (highOf l)) 0 (codesOf l s) (λ k h.
+        let r = valid-says l ok in
+        let c = getD (codesOf l s) k 0 in
+        let e : c ≡ codeAt l s k = getD-tabulate (3 * (length s / l .bytes)) (codeAt l s) k 0 (omega (arith, length-tabulate (3 * (length s / l .bytes)) (codeAt l s))) in
+        let w = within-ends (l .range) (l .depth) c (r .range) (r .depth) (omega (arith, code-le k)) (not-true _ (every-at (λ c. not (excluded (l .range) (l .depth) c)) 0 (codesOf l s) k n h)) in
+        ap₂ _&&_ (le-leb (lowOf l) c (w .0)) (le-leb c (highOf l) (w .1)))
 
     pub as-dequantized : (k : ℕ) → k < length (valuesOf l s) → dequantized (l .model) (l .range) (l .depth) (k % 3) (codeAt l s k) ≡ named (kindOf (l .model) (k % 3)) (getD (valuesOf l s) k nan)
     unfolding dequantized

@@ -1,6 +1,6 @@
 -- What is claimed of decoding and encoding, of the definitions that the contracts of `decode_line`, `encode_line` and `decode_point` cite. proofs/Claims.antt proves each. Assumes nothing.
 use Prim.Native.Nat.{ℕ, _*_, _%_, _≤_, _<_}
-use mathlib.Core.Bool.{Bool, true, false, _&&_}
+use mathlib.Core.Bool.{Bool, true, false, not, _&&_}
 use mathlib.Core.Path.{_≡_}
 use mathlib.Core.List.{List, [], map}
 use lib.Dec.{eqb, leb}
@@ -13,7 +13,7 @@ use Rattle.layout.specs.Layout.{rangeOf, kindOf, validLayout}
 use Rattle.refusal.specs.Refusal.{wrongLineOrOutput}
 use Rattle.quantization.specs.declared.Quantized.the-variants.{Code}
 use Rattle.quantization.specs.Answer.{named, dequantized, quantized}
-use Rattle.quantization_laws.specs.Printed.{printedLow, printedHigh}
+use Rattle.quantization_laws.specs.Printed.{printedLow, printedHigh, excluded}
 use Rattle.line.specs.declared.LineAnswer.the-variants.{Points, Refused as LineRefused}
 use Rattle.line.specs.declared.Point.{Point}
 use Rattle.line.specs.Line.{codeAt, codesOf, packedOf, pointValues, PackedLine}
@@ -30,6 +30,10 @@ clampedTo l c = bounded (printedLow (rangeOf (l .range)) (l .depth)) (printedHig
 -- no code lies outside them
 abbrev pub withinEnds : Layout → List ℕ → Bool
 withinEnds l codes = every (λ c. leb (printedLow (rangeOf (l .range)) (l .depth)) c && leb c (printedHigh (rangeOf (l .range)) (l .depth))) codes
+
+-- no code is one of the three that A1 excludes from the return
+abbrev pub noneExcluded : Layout → List ℕ → Bool
+noneExcluded l codes = every (λ c. not (excluded (l .range) (l .depth) c)) codes
 
 -- any captured line, of up to 4,096 points, is decoded into three floats a point
 abbrev pub DecodesLines : Type 0
@@ -73,19 +77,26 @@ abbrev pub ReturnsWithinEnds : Type 0
 ReturnsWithinEnds =
     (l : Layout) (n : ℕ) (s : List ℕ) → PackedLine l n s → withinEnds l (codesOf l s) ≡ true → packedOf l (quantizedOf l (valuesOf l s)) ≡ cleared l s
 
--- and in every line none does: the ends are those of all codes
+-- and none does but the three that are excluded
 abbrev pub EveryCodeWithinEnds : Type 0
-EveryCodeWithinEnds = (l : Layout) (n : ℕ) (s : List ℕ) → PackedLine l n s → withinEnds l (codesOf l s) ≡ true
+EveryCodeWithinEnds = (l : Layout) (n : ℕ) (s : List ℕ) → PackedLine l n s → noneExcluded l (codesOf l s) ≡ true → withinEnds l (codesOf l s) ≡ true
 
--- demand 2's last sentence: any captured line of up to 4,096 points, decoded into three floats a point and then encoded into as many bytes, is accepted both times with its count of points, and returns, unused bits cleared, whatever the two outputs held before
-abbrev pub AnyLineReturns : Type 0
-AnyLineReturns =
+-- any captured line of up to 4,096 points, decoded into three floats a point and then encoded into as many bytes, is accepted both times with its count of points, and its codes come back, each clamped to its channel's ends, whatever the two outputs held before
+abbrev pub AnyLineComesBack : Type 0
+AnyLineComesBack =
     (l : Layout) (n : ℕ) (s : List ℕ) → PackedLine l n s → n ≤ mostPoints
     → (floats : List Float) (bytes : List ℕ) → length floats ≡ 3 * n → length bytes ≡ length s
     → let decoded = decodeOutput l s floats in
     (decodeAnswer l (length s) (length floats) ≡ Points n)
     × (encodeAnswer l decoded (length bytes) ≡ Points n)
-    × (encodeOutput l decoded bytes ≡ cleared l s)
+    × (encodeOutput l decoded bytes ≡ packedOf l (map (clampedTo l) (codesOf l s)))
+
+-- demand 2's last sentence, but for the three codes that A1 excludes from it: such a line returns, its unused bits cleared
+abbrev pub AnyLineReturns : Type 0
+AnyLineReturns =
+    (l : Layout) (n : ℕ) (s : List ℕ) → PackedLine l n s → n ≤ mostPoints → noneExcluded l (codesOf l s) ≡ true
+    → (floats : List Float) (bytes : List ℕ) → length floats ≡ 3 * n → length bytes ≡ length s
+    → encodeOutput l (decodeOutput l s floats) bytes ≡ cleared l s
 
 -- an empty line counts 0
 abbrev pub CountsEmptyLines : Type 0

@@ -1,4 +1,4 @@
--- Worked examples: the bytes of two layouts, and what reading them and bytes changed from them answers. Assumes nothing.
+-- Worked examples: the bytes of three layouts, and what reading them and bytes changed from them answers. Assumes nothing.
 use Prim.Native.Nat.{ℕ}
 use mathlib.Core.Path.{_≡_, refl}
 use mathlib.Core.List.{List, [], _∷_, _++_}
@@ -39,11 +39,26 @@ tenBytes =
     ∷ 10 ∷ 0 ∷ 9 ∷ 0 ∷ 0 ∷ 0 ∷ 0 ∷ 0 ∷ 64 ∷ 0 ∷ 0 ∷ 0 ∷ 172 ∷ 3 ∷ 0 ∷ 0
     ∷ 20 ∷ 0 ∷ 9 ∷ 2 ∷ 0 ∷ 0 ∷ 0 ∷ 0 ∷ 64 ∷ 0 ∷ 0 ∷ 0 ∷ 192 ∷ 3 ∷ 0 ∷ 0 ∷ []
 
--- the two tables, read and written; then one byte too many, and one byte changed for each of the rows 2 to 6
+-- Y', Cb, Cr of 8 bits in three bytes, A1's range, BT.601: 0 and 256
+abbrev early : Layout
+early = record { model = 2; primaries = 2; range = 3; depth = 8; bytes = 3; offset0 = 0; offset1 = 8; offset2 = 16 }
+
+abbrev earlyBytes : List ℕ
+earlyBytes =
+    76 ∷ 0 ∷ 0 ∷ 0 ∷ 0 ∷ 0 ∷ 0 ∷ 0 ∷ 1 ∷ 0 ∷ 72 ∷ 0
+    ∷ 2 ∷ 2 ∷ 3 ∷ 0 ∷ 0 ∷ 0 ∷ 0 ∷ 0 ∷ 3 ∷ 0 ∷ 0 ∷ 0 ∷ 0 ∷ 0 ∷ 0 ∷ 0
+    ∷ 0 ∷ 0 ∷ 7 ∷ 0 ∷ 0 ∷ 0 ∷ 0 ∷ 0 ∷ 0 ∷ 0 ∷ 0 ∷ 0 ∷ 0 ∷ 1 ∷ 0 ∷ 0
+    ∷ 8 ∷ 0 ∷ 7 ∷ 1 ∷ 0 ∷ 0 ∷ 0 ∷ 0 ∷ 0 ∷ 0 ∷ 0 ∷ 0 ∷ 0 ∷ 1 ∷ 0 ∷ 0
+    ∷ 16 ∷ 0 ∷ 7 ∷ 2 ∷ 0 ∷ 0 ∷ 0 ∷ 0 ∷ 0 ∷ 0 ∷ 0 ∷ 0 ∷ 0 ∷ 1 ∷ 0 ∷ 0 ∷ []
+
+-- the three tables, read and written; one sample of the third with full range's 255; then one byte too many, and one byte changed for each of the rows 2 to 6
 examples : (descriptorBytes bgr ≡ bgrBytes)
     × (readDescriptor bgrBytes ≡ Accepted bgr)
     × (descriptorBytes ten ≡ tenBytes)
     × (readDescriptor tenBytes ≡ Accepted ten)
+    × (descriptorBytes early ≡ earlyBytes)
+    × (readDescriptor earlyBytes ≡ Accepted early)
+    × (readDescriptor (set (set earlyBytes 40 255) 41 0) ≡ Refused 6)
     × (readDescriptor (tenBytes ++ (0 ∷ [])) ≡ Refused 1)
     × (readDescriptor (set tenBytes 8 2) ≡ Refused 2)
     × (readDescriptor (set tenBytes 12 3) ≡ Refused 3)
@@ -53,4 +68,4 @@ examples : (descriptorBytes bgr ≡ bgrBytes)
     × (readDescriptor (set (set tenBytes 40 172) 64 1) ≡ Refused 5)
     × (readDescriptor (set tenBytes 40 172) ≡ Refused 6)
 unfolding bytesOf sampleBytes sampleIn samplesIn states allState rangeIn sampleOf rising fieldsOf samplesOf samplesRight offsetIn frontBytes samplesBytes descriptorBytes headerRight colorRight planesRight layoutFrom readSamples readDescriptor
-examples = (refl, refl, refl, refl, refl, refl, refl, refl, refl, refl, refl, refl)
+examples = (refl, refl, refl, refl, refl, refl, refl, refl, refl, refl, refl, refl, refl, refl, refl)

@@ -8,7 +8,7 @@ use borrow.Author.Tests.{eq-eqb, ltb-true, lt-ltb, le-ltb, le-leb}
 use lib.Dec.{eqb, leb}
 use Rattle.lists.proofs.Tests.{and-left, and-right, and3, pass, stop}
 use Rattle.layout.specs.declared.Layout.{Layout}
-use Rattle.layout.specs.declared.range.Range.the-variants.{Narrow, Full}
+use Rattle.layout.specs.declared.range.Range.the-variants.{Narrow, Full, LegacyFull}
 use Rattle.layout.specs.Layout.{rangeKnown, rangeOf, channelKnown, inside, apart, kindOf}
 use Rattle.descriptor_samples.specs.declared.sample.Sample.{Sample}
 use Rattle.descriptor_samples.specs.declared.samples.Samples.{Samples}
@@ -27,16 +27,17 @@ use Rattle.descriptor_laws.proofs.Samples.{field, sampleFor, samplesFor
 pub range-stated : (model : ℕ) (s : Samples) → eqb (rangeFrom model s) 0 ≡ false
     → (allState model (rangeOf (rangeFrom model s)) (s .first .length + 1) s ≡ true) × (rangeKnown (rangeFrom model s) ≡ true)
 unfolding rangeIn
-range-stated model s = go (allState model Narrow n s) (allState model Full n s) refl refl
+range-stated model s = go (allState model Narrow n s) (allState model Full n s) (allState model LegacyFull n s) refl refl refl
   where
     n : ℕ
     n = s .first .length + 1
 
-    go : (t u : Bool) → allState model Narrow n s ≡ t → allState model Full n s ≡ u → eqb (cond t 1 (cond u 2 0)) 0 ≡ false
-        → (allState model (rangeOf (cond t 1 (cond u 2 0))) n s ≡ true) × (rangeKnown (cond t 1 (cond u 2 0)) ≡ true)
-    go true u e f h = (e, refl)
-    go false true e f h = (f, refl)
-    go false false e f h = absurd (false≢true (sym h))
+    go : (t u w : Bool) → allState model Narrow n s ≡ t → allState model Full n s ≡ u → allState model LegacyFull n s ≡ w → eqb (cond t 1 (cond u 2 (cond w 3 0))) 0 ≡ false
+        → (allState model (rangeOf (cond t 1 (cond u 2 (cond w 3 0)))) n s ≡ true) × (rangeKnown (cond t 1 (cond u 2 (cond w 3 0))) ≡ true)
+    go true u w e f g h = (e, refl)
+    go false true w e f g h = (f, refl)
+    go false false true e f g h = (g, refl)
+    go false false false e f g h = absurd (false≢true (sym h))
 
 -- ---- each channel once
 

@@ -1,19 +1,21 @@
 -- The samples of a layout: what each says, and that they are right, state the layout's range and name its offsets. Assumes nothing.
 use mathlib.Core.Path.{_≡_, refl, sym, ap, ap₂, _∙_, subst}
-use mathlib.Core.Bool.{true, false, _&&_}
+use mathlib.Core.Bool.{Bool, true, false, _&&_}
 use mathlib.Core.Logic.{inl, inr}
 use Prim.Native.Nat.{ℕ, _+_, _-_, _*_, _≤_}
 use native.Mathlib.Omega.{arith}
-use borrow.Author.Tests.{eqb-true, leb-true, eq-eqb, ne-eqb, le-leb}
+use borrow.Author.Tests.{eqb-true, leb-true, eq-eqb, le-leb}
 use mathlib.Core.List.{List}
 use lib.Dec.{eqb, leb}
 use lib.ListN.{getD}
 use Rattle.lists.proofs.Tests.{or-cases, pass, stop}
 use Rattle.layout.specs.declared.Layout.{Layout}
 use Rattle.layout.specs.declared.range.Range.{Range}
-use Rattle.layout.specs.declared.range.Range.the-variants.{Narrow, Full}
-use Rattle.layout.specs.Layout.{rangeOf, depthKnown, stepOf, kindOf, apart}
-use Rattle.layout.proofs.Depths.{steps}
+use Rattle.layout.specs.declared.range.Range.the-variants.{Narrow, Full, LegacyFull}
+use Rattle.layout.specs.declared.kind.Kind.{Kind}
+use Rattle.layout.specs.Layout.{rangeNumber, rangeOf, depthKnown, kindOf, apart}
+use Rattle.layout.proofs.Depths.{Steps, steps}
+use Rattle.layout.proofs.Known.{range-number}
 use Rattle.layout.proofs.Facts.{Valid}
 use Rattle.descriptor_samples.specs.declared.sample.Sample.{Sample}
 use Rattle.descriptor_samples.specs.declared.samples.Samples.{Samples}
@@ -157,29 +159,54 @@ module _ (l : Layout) (v : Valid l) where
   first-depth : samplesOf l .first .length + 1 ≡ l .depth
   first-depth = ap (λ (k : ℕ). k + 1) (of-samples l .0 .length) ∙ depth-again
 
-  -- a full range's lower number is no narrow one
-  full-not-narrow : rangeOf (l .range) ≡ Full → allState (l .model) Narrow (l .depth) (samplesOf l) ≡ false
-  unfolding allState states
-  full-not-narrow e =
-      let s = samplesOf l .first in
-      let zero-lower : s .lower ≡ 0 = of-samples l .0 .lower ∙ ap (λ (r : Range). lowerOf r (l .depth)) e in
-      let t = steps (l .depth) (v .depth-least) (v .depth-most) in
-      let differs : eqb (s .lower) (16 * stepOf (l .depth)) ≡ false = ne-eqb (s .lower) (16 * stepOf (l .depth)) (λ q. omega (arith, t .least)) in
-      rw differs
+  -- and no other range: two that differ in the lower or the upper number are not both stated
+  Differs : Range → Range → Type 0
+  Differs r q = (k : Kind) → lowerOf r (l .depth) ≡ lowerOf q (l .depth) → upperOf r (l .depth) k ≡ upperOf q (l .depth) k → ⊥
+
+  not-other : (q : Range) → Differs (rangeOf (l .range)) q → allState (l .model) q (l .depth) (samplesOf l) ≡ false
+  unfolding allState states Differs
+  not-other q differ = go (eqb (s .lower) low) (eqb (s .upper) high) refl refl
+    where
+      s : Sample
+      s = samplesOf l .first
+
+      low : ℕ
+      low = lowerOf q (l .depth)
+
+      high : ℕ
+      high = upperOf q (l .depth) (kindOf (l .model) (s .channel))
+
+      go : (t u : Bool) → eqb (s .lower) low ≡ t → eqb (s .upper) high ≡ u
+          → t && u && states (l .model) q (l .depth) (samplesOf l .second) && states (l .model) q (l .depth) (samplesOf l .third) ≡ false
+      go false u a b = refl
+      go true false a b = refl
+      go true true a b =
+          let o = of-samples l .0 in
+          absurd (differ (kindOf (l .model) (s .channel)) (sym (o .lower) ∙ eqb-true (s .lower) low a) (sym (o .upper) ∙ eqb-true (s .upper) high b))
 
   pub range-samples : rangeFrom (l .model) (samplesOf l) ≡ l .range
-  unfolding rangeIn
-  range-samples = elim (or-cases (eqb (l .range) 1) (eqb (l .range) 2) (v .range)) [
-    | inl q ↦
-        (let e = eqb-true (l .range) 1 q in
-        let own = subst (λ (r : ℕ). allState (l .model) (rangeOf r) (l .depth) (samplesOf l) ≡ true) e all-own in
-        stop _ (ap (λ (n : ℕ). allState (l .model) Narrow n (samplesOf l)) first-depth ∙ own) ∙ sym e)
-    | inr q ↦
-        (let e = eqb-true (l .range) 2 q in
-        let own = subst (λ (r : ℕ). allState (l .model) (rangeOf r) (l .depth) (samplesOf l) ≡ true) e all-own in
-        pass _ (ap (λ (n : ℕ). allState (l .model) Narrow n (samplesOf l)) first-depth ∙ full-not-narrow (ap rangeOf e))
-        (stop _ (ap (λ (n : ℕ). allState (l .model) Full n (samplesOf l)) first-depth ∙ own)) ∙ sym e)
-  ]
+  unfolding rangeIn Differs
+  range-samples = go (rangeOf (l .range)) refl ∙ range-number (l .range) (v .range)
+    where
+      t : Steps (l .depth)
+      t = steps (l .depth) (v .depth-least) (v .depth-most)
+
+      at : (r : Range) {b : Bool} → allState (l .model) r (l .depth) (samplesOf l) ≡ b → allState (l .model) r (samplesOf l .first .length + 1) (samplesOf l) ≡ b
+      at r e = ap (λ (n : ℕ). allState (l .model) r n (samplesOf l)) first-depth ∙ e
+
+      own : (r : Range) → rangeOf (l .range) ≡ r → allState (l .model) r (samplesOf l .first .length + 1) (samplesOf l) ≡ true
+      own r e = at r (ap (λ (q : Range). allState (l .model) q (l .depth) (samplesOf l)) (sym e) ∙ all-own)
+
+      other : (r q : Range) → rangeOf (l .range) ≡ r → Differs r q → allState (l .model) q (samplesOf l .first .length + 1) (samplesOf l) ≡ false
+      other r q e differ = at q (not-other q (subst (λ (x : Range). Differs x q) (sym e) differ))
+
+      go : (r : Range) → rangeOf (l .range) ≡ r → rangeFrom (l .model) (samplesOf l) ≡ rangeNumber (rangeOf (l .range))
+      go Narrow e = stop _ (own Narrow e) ∙ ap rangeNumber (sym e)
+      go Full e = pass _ (other Full Narrow e (λ k a b. omega (arith, t .least))) (stop _ (own Full e)) ∙ ap rangeNumber (sym e)
+      go LegacyFull e =
+          pass _ (other LegacyFull Narrow e (λ k a b. omega (arith, t .least)))
+          (pass _ (other LegacyFull Full e (λ k a b. omega (arith, t .least, t .whole))) (stop _ (own LegacyFull e)))
+          ∙ ap rangeNumber (sym e)
 
 -- ---- the offsets
 

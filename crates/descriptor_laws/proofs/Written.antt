@@ -1,22 +1,21 @@
 -- The descriptor of a valid layout is read as the layout. Assumes nothing.
 use mathlib.Core.Path.{_≡_, refl, sym, ap, ap₂, _∙_}
 use mathlib.Core.Bool.{true, false, _&&_}
-use mathlib.Core.Logic.{inl, inr}
 use Prim.Native.Nat.{ℕ, zero, suc, _+_, _*_, _/_, _%_, _^_, _≤_, _<_}
 use native.Mathlib.Nat.{pow-suc, div-lt-iff-lt-mul}
 use native.Mathlib.Omega.{arith}
-use borrow.Author.Tests.{le-leb, ne-eqb, eqb-true}
+use borrow.Author.Tests.{le-leb}
 use lib.Dec.{eqb, lit<}
 use lib.ListN.{length, getD}
 use Rattle.lists.specs.Bytes.{bytesOf}
-use Rattle.lists.proofs.Tests.{or-cases}
 use Rattle.layout.specs.declared.Layout.{Layout}
 use Rattle.layout.specs.declared.range.Range.{Range}
-use Rattle.layout.specs.declared.range.Range.the-variants.{Narrow, Full}
+use Rattle.layout.specs.declared.range.Range.the-variants.{Narrow, Full, LegacyFull}
 use Rattle.layout.specs.declared.kind.Kind.{Kind}
 use Rattle.layout.specs.declared.kind.Kind.the-variants.{Brightness, Difference}
-use Rattle.layout.specs.Layout.{rangeOf, bytesKnown, kindOf}
+use Rattle.layout.specs.Layout.{rangeNumber, rangeOf, bytesKnown, kindOf}
 use Rattle.layout.proofs.Depths.{Steps, steps}
+use Rattle.layout.proofs.Known.{range-number}
 use Rattle.layout.proofs.Facts.{Valid, valid-says}
 use Rattle.descriptor_samples.specs.declared.sample.Sample.{Sample}
 use Rattle.descriptor_samples.specs.declared.samples.Samples.{Samples}
@@ -81,11 +80,13 @@ module _ (l : Layout) (v : Valid l) where
   lower-lt : (r : Range) → lowerOf r (l .depth) < 4294967296
   lower-lt Narrow = omega (arith, small .most)
   lower-lt Full = lit< tt
+  lower-lt LegacyFull = lit< tt
 
   upper-lt : (r : Range) (k : Kind) → upperOf r (l .depth) k < 4294967296
   upper-lt Narrow Brightness = omega (arith, small .most)
   upper-lt Narrow Difference = omega (arith, small .most)
   upper-lt Full k = omega (arith, small .most, small .whole)
+  upper-lt LegacyFull k = omega (arith, small .most, small .whole)
 
   offset-lt : (s : Sample) → s .offset + l .depth ≤ 8 * l .bytes → Of l s → Fits s
   offset-lt s h o =
@@ -148,10 +149,12 @@ module _ (l : Layout) (v : Valid l) where
   range-is = ap (rangeFrom (l .model)) samples-again ∙ range-samples l v
 
   range-stated : eqb (l .range) 0 ≡ false
-  range-stated = elim (or-cases (eqb (l .range) 1) (eqb (l .range) 2) (v .range)) [
-    | inl q ↦ (let e = eqb-true (l .range) 1 q in ne-eqb (l .range) 0 (λ z. omega arith))
-    | inr q ↦ (let e = eqb-true (l .range) 2 q in ne-eqb (l .range) 0 (λ z. omega arith))
-  ]
+  range-stated = ap (λ (r : ℕ). eqb r 0) (sym (range-number (l .range) (v .range))) ∙ none (rangeOf (l .range))
+    where
+      none : (r : Range) → eqb (rangeNumber r) 0 ≡ false
+      none Narrow = refl
+      none Full = refl
+      none LegacyFull = refl
 
   layout-is : layoutIn (descriptorBytes l) ≡ l
   unfolding descriptorBytes samplesBytes frontBytes sampleBytes bytesOf

@@ -3,7 +3,7 @@ use Prim.Native.Nat.{ℕ, _+_, _*_}
 use mathlib.Core.Bool.{Bool, not, cond, _&&_}
 use lib.Dec.{eqb, leb}
 use Rattle.layout.specs.declared.range.Range.{Range}
-use Rattle.layout.specs.declared.range.Range.the-variants.{Narrow, Full}
+use Rattle.layout.specs.declared.range.Range.the-variants.{Narrow, Full, LegacyFull}
 use Rattle.layout.specs.Layout.{rangeNumber, depthKnown, channelKnown, kindOf}
 use Rattle.descriptor_samples.specs.declared.sample.Sample.{Sample}
 use Rattle.descriptor_samples.specs.declared.samples.Samples.{Samples}
@@ -45,4 +45,8 @@ allState model range n s = states model range n (s .first) && states model range
 
 -- the number of the range that all three state, and 0 if they state no one range
 unfoldable pub rangeIn : ℕ → ℕ → Samples → ℕ
-rangeIn model n s = cond (allState model Narrow n s) (rangeNumber Narrow) (cond (allState model Full n s) (rangeNumber Full) 0)
+rangeIn model n s =
+    cond (allState model Narrow n s) (rangeNumber Narrow)
+    (cond (allState model Full n s) (rangeNumber Full)
+    (cond (allState model LegacyFull n s) (rangeNumber LegacyFull)
+    0))

@@ -32,6 +32,10 @@ impl Limits {
                 lower: 0,
                 upper: depth.top(),
             },
+            Range::LegacyFull => Limits {
+                lower: 0,
+                upper: 256 * s,
+            },
         }
     }
 }

@@ -81,6 +81,8 @@ impl Samples {
             1
         } else if self.all_state(model, Range::Full, depth) {
             2
+        } else if self.all_state(model, Range::LegacyFull, depth) {
+            3
         } else {
             0
         }

@@ -12,7 +12,7 @@ pub(crate) fn range_of(number: u8) -> Range
 {
     match Range::of(number) {
         KnownRange::Known(range) => range,
-        KnownRange::Unknown => Range::Full,
+        KnownRange::Unknown => Range::LegacyFull,
     }
 }
 

@@ -1,72 +1,93 @@
 -- The claims of specs/Claims.antt. Assumes nothing.
-use mathlib.Core.Path.{_≡_, refl, sym, ap, ap₂, _∙_, subst}
+use mathlib.Core.Path.{_≡_, refl, sym, ap, ap₂, _∙_}
 use mathlib.Core.Bool.{Bool, true, false, not, cond, _&&_}
-use Prim.Native.Nat.{ℕ, _≤_}
+use Prim.Native.Nat.{ℕ, _*_, _≤_}
+use native.Mathlib.Nat.{zero-mul, eq-of-mul-eq-mul-right}
 use native.Mathlib.Omega.{arith}
 use borrow.Author.Tests.{le-ltb, ltb-false}
 use lib.Dec.{ltb}
-use lib.IntN.{pos, _-ℤ_}
+use lib.IntN.{ℤ, pos, _-ℤ_, _*ℤ_}
 use lib.Ieee.{Float}
 use Rattle.lists.proofs.Tests.{and-left, and-right, pass}
 use Rattle.fractions.specs.Fraction.{Fraction, bounded, clamp}
-use Rattle.fractions.proofs.Integers.{as-pos, same-sums}
+use Rattle.fractions.proofs.Integers.{as-pos, times-right, same-sums}
 use Rattle.layout.specs.declared.range.Range.{Range}
 use Rattle.layout.specs.declared.kind.Kind.{Kind}
 use Rattle.layout.specs.declared.kind.Kind.the-variants.{Brightness, Difference}
 use Rattle.layout.specs.Layout.{modelKnown, rangeKnown, rangeOf, depthKnown, channelKnown, topOf, kindOf}
-use Rattle.layout.proofs.Depths.{known-between}
+use Rattle.layout.proofs.Depths.{Steps, steps, known-between}
 use Rattle.quantization.specs.declared.Dequantized.the-variants.{Refused as NoValue}
+use Rattle.quantization.specs.declared.Quantized.{Quantized}
 use Rattle.quantization.specs.declared.Quantized.the-variants.{Code, Refused as NoCode}
-use Rattle.scales.specs.Scale.{lowEnd, highEnd, scaleOf}
-use Rattle.scales.specs.Value.{valueOf}
+use Rattle.scales.specs.Scale.{scaleOf}
+use Rattle.scales.specs.Value.{fractionOf, valueOf}
 use Rattle.quantization.specs.Code.{codeOfValue, codeOf}
 use Rattle.scales.specs.Channel.{channelKnownAt, channelScale}
 use Rattle.quantization.specs.Answer.{named, dequantized, orRefused, quantized}
-use Rattle.scales.proofs.Scales.{ends, ends-whole}
-use Rattle.quantization_laws.specs.Claims.{Dequantizes, Quantizes, QuantizesOthers, ZeroIsPlus, Returns, ReturnsWithin, ReturnsEvery}
-use Rattle.quantization_laws.specs.Printed.{printedUnclamped, printedLow, printedHigh}
+use Rattle.scales.proofs.Scales.{ends}
+use Rattle.quantization_laws.specs.Claims.{Dequantizes, Quantizes, QuantizesOthers, ZeroIsPlus, Returns, ReturnsWithin, ReturnsEvery, ReturnsExcluded}
+use Rattle.quantization_laws.specs.Printed.{printedValue, printedUnclamped, printedLow, printedHigh}
 use Rattle.quantization_laws.specs.Pattern.{patternValue}
-use Rattle.quantization_laws.specs.Nearest.{NearestTo}
-use Rattle.quantization_laws.proofs.Printed.{value-printed, unclamped-printed, ends-printed}
+use Rattle.quantization_laws.proofs.Printed.{value-printed, printed-over, unclamped-printed, ends-printed, within-ends, excluded-end}
 use Rattle.quantization_laws.proofs.Pattern.{pattern-code}
 use Rattle.quantization_laws.proofs.Return.{code-returns}
 use Rattle.quantization_laws.proofs.Nearest.{code-nearest, zero-plus}
+use Rattle.quantization_laws.proofs.Distances.{nearest-same}
 
--- the depth of a known channel lies where the laws are proved
-depth-between : (model range n channel : ℕ) → channelKnownAt model range n channel ≡ true → (8 ≤ n) × (n ≤ 12)
-depth-between model range n channel e =
-    known-between n (and-right (modelKnown model && rangeKnown range) (depthKnown n) (and-left (modelKnown model && rangeKnown range && depthKnown n) (channelKnown channel) e))
+-- what a known channel says of its range and depth: the laws are proved for depths from 8 to 12
+pub record Says (range n : ℕ) : Type 0 where
+  pub range-known : rangeKnown range ≡ true
+  pub depth-known : depthKnown n ≡ true
+  pub least : 8 ≤ n
+  pub most : n ≤ 12
+  pub stepped : Steps n
+
+says : (model range n channel : ℕ) → channelKnownAt model range n channel ≡ true → Says range n
+says model range n channel e =
+    let h = and-left (modelKnown model && rangeKnown range && depthKnown n) (channelKnown channel) e in
+    let d = and-right (modelKnown model && rangeKnown range) (depthKnown n) h in
+    let b = known-between n d in
+    record {
+      range-known = and-right (modelKnown model) (rangeKnown range) (and-left (modelKnown model && rangeKnown range) (depthKnown n) h);
+      depth-known = d;
+      least = b .0;
+      most = b .1;
+      stepped = steps n (b .0) (b .1);
+    }
 
 -- the code of a value, as printed
-code-printed : (r : Range) (k : Kind) (n : ℕ) (v : Fraction) → codeOfValue (scaleOf r n k) v ≡ clamp (printedLow r n) (printedHigh r n) (printedUnclamped r k n v)
+code-printed : (r : Range) (k : Kind) (n : ℕ) (v : Fraction) → depthKnown n ≡ true → Steps n → codeOfValue (scaleOf r n k) v ≡ clamp (printedLow r n) (printedHigh r n) (printedUnclamped r k n v)
 unfolding codeOfValue
-code-printed r k n v =
+code-printed r k n v d s =
     let e = ends r k n in
-    let f = ends-printed r n in
-    (λ i. clamp ((e .0 ∙ f .0) i) ((e .1 ∙ f .1) i) (unclamped-printed r k n v i))
+    let f = ends-printed r n d in
+    (λ i. clamp ((e .0 ∙ f .0) i) ((e .1 ∙ f .1) i) (unclamped-printed r k n v s i))
 
 pub dequantizes : Dequantizes
 unfolding dequantized
 dequantizes model range n channel c e h =
-    let d = depth-between model range n channel e in
+    let d = says model range n channel e in
+    let r = rangeOf range in
+    let k = kindOf model channel in
     let sc = channelScale model range n channel in (
       valueOf sc c,
       pass _ (ap not e) (pass _ (le-ltb (topOf n) c h) refl),
-      subst (λ (x : Fraction). NearestTo x (valueOf sc c)) (value-printed (rangeOf range) (kindOf model channel) n c) (code-nearest (rangeOf range) (kindOf model channel) n c (d .0) (d .1) h),
+      nearest-same (fractionOf sc c) (printedValue r k n c) (valueOf sc c) (printed-over r k n c (d .stepped)) (value-printed r k n c (d .stepped)) (code-nearest r k n c (d .least) (d .most) h),
     )
 
 pub quantizes : Quantizes
 unfolding quantized
 quantizes model range n channel bits e h =
+    let d = says model range n channel e in
     pass _ (ap not e)
     (ap orRefused (pattern-code (channelScale model range n channel) bits h)
-    ∙ ap Code (code-printed (rangeOf range) (kindOf model channel) n (patternValue bits)))
+    ∙ ap Code (code-printed (rangeOf range) (kindOf model channel) n (patternValue bits) (d .depth-known) (d .stepped)))
 
 pub quantizes-others : QuantizesOthers
 unfolding quantized codeOf
 quantizes-others model range n channel e =
     let q = ends (rangeOf range) (kindOf model channel) n in
-    let f = ends-printed (rangeOf range) n in
+    let f = ends-printed (rangeOf range) n (says model range n channel e .depth-known) in
     (pass _ (ap not e) (ap Code (q .1 ∙ f .1)), pass _ (ap not e) (ap Code (q .0 ∙ f .0)), pass _ (ap not e) refl)
 
 pub zero-is-plus : ZeroIsPlus
@@ -74,10 +95,14 @@ unfolding dequantized
 zero-is-plus model range n channel c e h z =
     let r = rangeOf range in
     let k = kindOf model channel in
-    let d = depth-between model range n channel e in
-    let none : pos c -ℤ pos (scaleOf r n k .base) ≡ pos 0 -ℤ pos 0 = ap (λ (x : Fraction). x .num) (value-printed r k n c) ∙ z ∙ as-pos 0 0 0 (omega arith) in
-    let base : c ≡ scaleOf r n k .base = omega (arith, same-sums c (scaleOf r n k .base) 0 0 none) in
-    pass _ (ap not e) (pass _ (le-ltb (topOf n) c h) (ap (named k) (ap (valueOf (scaleOf r n k)) base ∙ zero-plus r k n (d .0) (d .1))))
+    let d = says model range n channel e in
+    let b = scaleOf r n k .base in
+    let over = printedValue r k n c .den in
+    let none : pos (c * over) -ℤ pos (b * over) ≡ pos 0 -ℤ pos 0 =
+    sym (times-right c b over) ∙ value-printed r k n c (d .stepped) ∙ ap (λ (x : ℤ). x *ℤ pos (scaleOf r n k .span)) z
+    ∙ ap pos (zero-mul (scaleOf r n k .span)) ∙ as-pos 0 0 0 (omega arith) in
+    let base : c ≡ b = eq-of-mul-eq-mul-right over (printed-over r k n c (d .stepped)) c b (omega (arith, same-sums (c * over) (b * over) 0 0 none)) in
+    pass _ (ap not e) (pass _ (le-ltb (topOf n) c h) (ap (named k) (ap (valueOf (scaleOf r n k)) base ∙ zero-plus r k n (d .least) (d .most))))
 
 -- a value is no refusal, and is told by its answer
 not-refused : (k : Kind) (v : Float) (n : ℕ) → NoValue n ≡ named k v → ⊥
@@ -89,34 +114,45 @@ told Brightness v w e = cc
 told Difference v w e = cc
 
 -- a code that has a value is one of its depth, and comes back clamped
-comes-back : (model range n channel c : ℕ) (v : Float) → dequantized model range n channel c ≡ named (kindOf model channel) v
-    → (c ≤ topOf n) × (quantized model range n channel v ≡ Code (bounded (lowEnd (rangeOf range) n) (highEnd (rangeOf range) n) c))
+pub record Back (range n c : ℕ) (answer : Quantized) : Type 0 where
+  pub known : Says range n
+  pub small : c ≤ topOf n
+  pub clamped : answer ≡ Code (bounded (printedLow (rangeOf range) n) (printedHigh (rangeOf range) n) c)
+
+comes-back : (model range n channel c : ℕ) (v : Float) → dequantized model range n channel c ≡ named (kindOf model channel) v → Back range n c (quantized model range n channel v)
 unfolding dequantized quantized
 comes-back model range n channel c v e = go (channelKnownAt model range n channel) (ltb (topOf n) c) refl refl e
   where
     go : (t h : Bool) → channelKnownAt model range n channel ≡ t → ltb (topOf n) c ≡ h
         → cond (not t) (NoValue 9) (cond h (NoValue 14) (named (kindOf model channel) (valueOf (channelScale model range n channel) c))) ≡ named (kindOf model channel) v
-        → (c ≤ topOf n) × (cond (not t) (NoCode 9) (orRefused (codeOf (channelScale model range n channel) v)) ≡ Code (bounded (lowEnd (rangeOf range) n) (highEnd (rangeOf range) n) c))
+        → Back range n c (cond (not t) (NoCode 9) (orRefused (codeOf (channelScale model range n channel) v)))
     go false h p q e = absurd (not-refused (kindOf model channel) v 9 e)
     go true true p q e = absurd (not-refused (kindOf model channel) v 14 e)
     go true false p q e =
-        let d = depth-between model range n channel p in
-        let h = ltb-false (topOf n) c q in (
-          h,
-          ap (λ (x : Float). orRefused (codeOf (channelScale model range n channel) x)) (sym (told (kindOf model channel) (valueOf (channelScale model range n channel) c) v e))
-              ∙ ap orRefused (code-returns (rangeOf range) (kindOf model channel) n c (d .0) (d .1) h),
-        )
+        let d = says model range n channel p in
+        let h = ltb-false (topOf n) c q in
+        let f = ends-printed (rangeOf range) n (d .depth-known) in
+        record {
+          known = d;
+          small = h;
+          clamped = ap (λ (x : Float). orRefused (codeOf (channelScale model range n channel) x)) (sym (told (kindOf model channel) (valueOf (channelScale model range n channel) c) v e))
+              ∙ ap orRefused (code-returns (rangeOf range) (kindOf model channel) n c (d .least) (d .most) h)
+              ∙ ap₂ (λ (x y : ℕ). Code (bounded x y c)) (f .0) (f .1);
+        }
 
 pub returns : Returns
-returns model range n channel c v e =
-    let f = ends-printed (rangeOf range) n in
-    comes-back model range n channel c v e .1 ∙ ap₂ (λ (x y : ℕ). Code (bounded x y c)) (f .0) (f .1)
+returns model range n channel c v e = comes-back model range n channel c v e .clamped
 
 pub returns-within : ReturnsWithin
 returns-within model range n channel c v e lo hi = returns model range n channel c v e ∙ ap Code (omega arith)
 
 pub returns-every : ReturnsEvery
-returns-every model range n channel c v e =
-    let w = ends-whole (rangeOf range) n in
-    let q = comes-back model range n channel c v e in
-    q .1 ∙ ap Code (omega arith)
+returns-every model range n channel c v e x =
+    let b = comes-back model range n channel c v e in
+    let w = within-ends range n c (b .known .range-known) (b .known .depth-known) (b .small) x in
+    returns-within model range n channel c v e (w .0) (w .1)
+
+pub returns-excluded : ReturnsExcluded
+returns-excluded model range n channel c v e x =
+    let b = comes-back model range n channel c v e in
+    b .clamped ∙ ap Code (excluded-end range n c (b .known .range-known) (b .known .depth-known) x)

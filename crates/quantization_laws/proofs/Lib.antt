@@ -3,6 +3,7 @@ pub mod Printed
 pub mod Pattern
 pub mod Return
 pub mod Nearest
+pub mod Distances
 mod Closest
 mod Units
 mod Values

@@ -75,7 +75,7 @@ other-sign true false a b d p n = distance-is true false a b d p ∙ omega arith
 other-sign true true a b d p n = absurd (n refl)
 
 -- ---- from units to fractions: a / b is g units
-gap-mul : (x y k : ℕ) → gap x y * k ≡ gap (x * k) (y * k)
+pub gap-mul : (x y k : ℕ) → gap x y * k ≡ gap (x * k) (y * k)
 gap-mul x y k = add-mul (x - y) (y - x) k ∙ ap₂ (λ (u v : ℕ). u + v) (sub-mul x y k) (sub-mul y x k)
 
 module _ (a b g d p u : ℕ) (e : a * u ≡ g * b) where

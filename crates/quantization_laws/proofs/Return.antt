@@ -9,11 +9,9 @@ use lib.Pow.{pow-pos}
 use lib.Ieee.{binary32}
 use lib.Ieee.Scale.{grid}
 use Rattle.layout.specs.declared.range.Range.{Range}
-use Rattle.layout.specs.declared.range.Range.the-variants.{Narrow, Full}
 use Rattle.layout.specs.declared.kind.Kind.{Kind}
-use Rattle.layout.specs.declared.kind.Kind.the-variants.{Brightness, Difference}
-use Rattle.layout.specs.Layout.{stepOf, topOf}
-use Rattle.layout.proofs.Depths.{Steps, steps}
+use Rattle.layout.specs.Layout.{topOf}
+use Rattle.layout.proofs.Depths.{steps}
 use Rattle.fractions.specs.Fraction.{bounded}
 use Rattle.scales.specs.declared.scale.Scale.{Scale}
 use Rattle.quantization.specs.declared.code.Coded.the-variants.{Code}
@@ -22,7 +20,7 @@ use Rattle.scales.specs.Value.{valueOf}
 use Rattle.quantization.specs.Code.{codeOf}
 use Rattle.floats.proofs.Sums.{signedSum}
 use Rattle.quantization.proofs.Codes.{Small, wholeCode, code-of-value, quotient-is}
-use Rattle.scales.proofs.Scales.{scaleBy, by-step, ends}
+use Rattle.scales.proofs.Scales.{ends, fine}
 use Rattle.quantization_laws.proofs.Units.{U, Near, unit, unit-lt, kept-near, grid-is, round-value}
 use Rattle.quantization_laws.proofs.Values.{gap, value-rounds}
 
@@ -60,14 +58,10 @@ pub record Paper (sc : Scale) : Type 0 where
   pub small : Small sc
   pub some : 0 < sc .span
 
-by-steps : (r : Range) (k : Kind) (n : ℕ) → Steps n → Paper (scaleBy r (stepOf n) (topOf n) (lowEnd r n) (highEnd r n) k)
-by-steps Narrow Brightness n h = omega arith
-by-steps Narrow Difference n h = omega arith
-by-steps Full Brightness n h = omega arith
-by-steps Full Difference n h = omega arith
-
 pub paper : (r : Range) (k : Kind) (n : ℕ) → 8 ≤ n → n ≤ 12 → Paper (scaleOf r n k)
-paper r k n lo hi = let h = steps n lo hi in subst Paper (by-step r k n h) (by-steps r k n h)
+paper r k n lo hi =
+    let f = fine r k n (steps n lo hi) in
+    record { small = record { base = omega (arith, f .base); span = omega (arith, f .span); high = omega (arith, f .high) }; some = f .some }
 
 -- every code of every range, kind and depth comes back, clamped
 pub code-returns : (r : Range) (k : Kind) (n c : ℕ) → 8 ≤ n → n ≤ 12 → c ≤ topOf n → codeOf (scaleOf r n k) (valueOf (scaleOf r n k) c) ≡ Code (bounded (lowEnd r n) (highEnd r n) c)

@@ -1,4 +1,5 @@
-// The published figures of document 000, its tables of narrow and full range at 8, 10 and 12 bits, run through the library.
+// The published figures of document 000, its tables of narrow and full range at 8, 10 and 12 bits, and what its notes say of the
+// legacy full range (white and the highest difference are clamped, at 12 bits to 4092), run through the library.
 // A line has a row of a table: the code of each channel that it speaks of, R' G' B' Y', or Cb Cr.
 use libc::STDOUT_FILENO;
 use quantization::Quantized;
@@ -60,4 +61,10 @@ fn main() {
     print_table(2, 10);
     print(b"full range, 12 bits\n");
     print_table(2, 12);
+    print(b"legacy full range, 8 bits\n");
+    print_table(3, 8);
+    print(b"legacy full range, 10 bits\n");
+    print_table(3, 10);
+    print(b"legacy full range, 12 bits\n");
+    print_table(3, 12);
 }

@@ -35,6 +35,12 @@ enum-told-4 c = search needs
 top-requires : tie.Need-top-requires
 top-requires c κs = search needs
 
+enum-told-5 : tie.Need-enum-told-5
+enum-told-5 c = search needs
+
+mul-t12 : tie.Need-mul-t12
+mul-t12 c = let s = c .before .before in omega (arith, s .step .ensures, depth-steps (s .before .args .depth) .most)
+
 returns : tie.Need-returns
 returns c =
     let m = c .before .before in
@@ -50,6 +56,12 @@ returns-2 c =
 returns-3 : tie.Need-returns-3
 returns-3 c = rw (c .before .enum-told4 .given .1, c .top .ensures)
 
+-- 256 s = 2^n
+returns-4 : tie.Need-returns-4
+returns-4 c =
+    let s = c .before .before in
+    rw (c .enum-told5 .given .1, s .step .ensures, depth-steps (s .before .args .depth) .whole)
+
 pub of-spec : {M : Type 1} → statement M
 of-spec =
     tie.close
@@ -64,6 +76,9 @@ of-spec =
     mul-t10
     enum-told-4
     top-requires
+    enum-told-5
+    mul-t12
     returns
     returns-2
-    returns-3)
+    returns-3
+    returns-4)
