@@ -1,4 +1,4 @@
--- Claims about the equations of document 01, "Between R'G'B' and Y'CbCr", as the entries' contracts cite them, about an empty line, and about the marked examples. proofs/Claims.antt proves each. Assumes nothing.
+-- Claims about the equations of document 01, "Between R'G'B' and Y'CbCr", as the entries' contracts cite them, about an empty line, about the marked examples and about points of range 3. proofs/Claims.antt proves each. Assumes nothing.
 use Prim.Native.Nat.{ℕ, _+_, _<_}
 use mathlib.Core.Bool.{true}
 use mathlib.Core.Path.{_≡_}
@@ -10,7 +10,7 @@ use Rattle.color_equations.specs.declared.weights.Weights.{Weights}
 use Rattle.color_equations.specs.Weights.{weightsOf, greenOf}
 use Rattle.color_equations.specs.Equations.{lumaOf, chromaOf, primaryOf, greenFrom}
 use Rattle.color_equations.specs.Line.{convertible, conversionAnswer}
-use Rattle.color_model_laws.specs.Marked.{marked, given, stated}
+use Rattle.color_model_laws.specs.Marked.{marked, early, given, stated}
 
 -- three weights above 0, and together they are 1
 abbrev pub Shares : Weights → Type 0
@@ -52,3 +52,7 @@ CountsEmptyLines = (primaries n from to : ℕ) → convertible primaries n from 
 -- the marked examples M1 to M12
 abbrev pub MarkedRight : Type 0
 MarkedRight = map given marked ≡ map stated marked
+
+-- the points of range 3
+abbrev pub EarlyRight : Type 0
+EarlyRight = map given early ≡ map stated early

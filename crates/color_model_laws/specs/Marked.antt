@@ -1,11 +1,11 @@
--- Document 01, "Marked examples", M1 to M12. Assumes nothing.
+-- Document 01, "Marked examples", M1 to M12, and points of request A1's range 3, worked out from the equations in exact fractions. Assumes nothing.
 use Prim.Native.Nat.{ℕ, _-_, _^_}
 use mathlib.Core.Bool.{true, false}
 use mathlib.Core.List.{List, [], _∷_}
 use lib.IntN.{pos, negsuc}
 use lib.Ieee.{Float, fin}
 use Rattle.layout.specs.declared.range.Range.{Range}
-use Rattle.layout.specs.declared.range.Range.the-variants.{Narrow, Full}
+use Rattle.layout.specs.declared.range.Range.the-variants.{Narrow, Full, LegacyFull}
 use Rattle.layout.specs.declared.kind.Kind.{Kind}
 use Rattle.layout.specs.declared.kind.Kind.the-variants.{Brightness, Difference}
 use Rattle.quantization.specs.declared.code.Coded.{Coded}
@@ -23,9 +23,9 @@ pub data Codes : Type 0 where
 pub data Example : Type 0 where
   -- a range, a depth, a kind, a float and its code. A float is `fin minus m e`, ±m * 2 ^ e; `negsuc k` is -(k + 1).
   float : Range → ℕ → Kind → Float → ℕ → Example
-  -- a range for both sides, a depth, primaries, R'G'B' and its Y'CbCr; and Y'CbCr and its R'G'B'
-  toYcbcr : Range → ℕ → ℕ → Codes → Codes → Example
-  toRgb : Range → ℕ → ℕ → Codes → Codes → Example
+  -- the range in and the range out, a depth, primaries, R'G'B' and its Y'CbCr; and Y'CbCr and its R'G'B'
+  toYcbcr : Range → Range → ℕ → ℕ → Codes → Codes → Example
+  toRgb : Range → Range → ℕ → ℕ → Codes → Codes → Example
 
 unfoldable pub marked : List Example
 marked =
@@ -50,9 +50,36 @@ marked =
     -- M10: 0.5
     ∷ float Narrow 8 Brightness (fin false 1 (negsuc 0)) 126
     -- M11: BT.709
-    ∷ toYcbcr Full 8 1 (codes 255 0 0) (codes 54 99 255)
+    ∷ toYcbcr Full Full 8 1 (codes 255 0 0) (codes 54 99 255)
     -- M12: that triple back
-    ∷ toRgb Full 8 1 (codes 54 99 255) (codes 254 0 0)
+    ∷ toRgb Full Full 8 1 (codes 54 99 255) (codes 254 0 0)
+    ∷ []
+
+-- range 3 beside each range, both ways
+unfoldable pub early : List Example
+early =
+    -- white
+    toYcbcr LegacyFull LegacyFull 8 1 (codes 255 255 255) (codes 255 128 128)
+    -- black
+    ∷ toYcbcr LegacyFull Narrow 10 2 (codes 0 0 0) (codes 64 512 512)
+    -- the codes above 4092, which stand for what the formula gives
+    ∷ toYcbcr LegacyFull Full 12 4 (codes 4093 4094 4095) (codes 4093 2049 2047)
+    -- white (Y' is 4096, clamped)
+    ∷ toYcbcr Full LegacyFull 12 1 (codes 4095 4095 4095) (codes 4092 2048 2048)
+    -- blue (Cb is 256, clamped)
+    ∷ toYcbcr Narrow LegacyFull 8 2 (codes 16 16 235) (codes 29 255 107)
+    -- a point that no R'G'B' has (R' is 400 and B' -38, clamped)
+    ∷ toRgb LegacyFull LegacyFull 8 1 (codes 200 0 255) (codes 255 165 0)
+    -- 4096, 4095 and 4093, clamped
+    ∷ toRgb LegacyFull LegacyFull 12 4 (codes 4095 2047 2049) (codes 4092 4092 4092)
+    ∷ toRgb LegacyFull Narrow 10 2 (codes 400 300 700) (codes 632 354 85)
+    -- 7110 and 7941, clamped
+    ∷ toRgb LegacyFull Full 12 4 (codes 4095 4093 4094) (codes 4095 2589 4095)
+    ∷ toRgb Full LegacyFull 10 1 (codes 800 400 600) (codes 939 781 593)
+    -- in full range each code is one less
+    ∷ toRgb Narrow LegacyFull 8 1 (codes 172 100 150) (codes 222 177 123)
+    -- white (4096, clamped)
+    ∷ toRgb Narrow LegacyFull 12 4 (codes 3760 2048 2048) (codes 4092 4092 4092)
     ∷ []
 
 -- an example's answer
@@ -60,14 +87,14 @@ pub data Answer : Type 0 where
   one : Coded → Answer
   three : Codes → Answer
 
--- what the definitions give, and what the paper states
+-- what the definitions give, and what is stated
 unfoldable pub given : Example → Answer
 unfolding scaleOf codeOf codeOfValue lumaOf chromaOf primaryOf greenFrom ycbcrOf rgbOf
 given (float r n k v code) = one (codeOf (scaleOf r n k) v)
-given (toYcbcr r n p (codes x y z) out) = let f = ycbcrOf (weightsOf p) n r r x y z in three (codes (f 0) (f 1) (f 2))
-given (toRgb r n p (codes x y z) out) = let f = rgbOf (weightsOf p) n r r x y z in three (codes (f 0) (f 1) (f 2))
+given (toYcbcr from to n p (codes x y z) out) = let f = ycbcrOf (weightsOf p) n from to x y z in three (codes (f 0) (f 1) (f 2))
+given (toRgb from to n p (codes x y z) out) = let f = rgbOf (weightsOf p) n from to x y z in three (codes (f 0) (f 1) (f 2))
 
 unfoldable pub stated : Example → Answer
 stated (float r n k v code) = one (Code code)
-stated (toYcbcr r n p point out) = three out
-stated (toRgb r n p point out) = three out
+stated (toYcbcr from to n p point out) = three out
+stated (toRgb from to n p point out) = three out

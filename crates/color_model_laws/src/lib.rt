@@ -1,1 +1,1 @@
-// What the definitions of the conversion amount to, and the paper's marked examples: statements (specs/) and their proofs (proofs/). No code.
+// What the definitions of the conversion amount to, and examples (the paper's marked ones, and points of range 3): statements (specs/) and their proofs (proofs/). No code.

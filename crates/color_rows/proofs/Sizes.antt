@@ -7,14 +7,16 @@ use lib.Dec.{T, lit≤, lit<, le→leb}
 use lib.IntN.{pos}
 use lib.Ieee.{binary64, inFloat}
 use Rattle.layout.specs.declared.range.Range.{Range}
-use Rattle.layout.specs.declared.range.Range.the-variants.{Narrow, Full}
+use Rattle.layout.specs.declared.range.Range.the-variants.{Narrow, Full, LegacyFull}
 use Rattle.layout.specs.declared.depth.Depth.{Depth}
 use Rattle.layout.specs.declared.depth.Depth.the-variants.{Eight, Ten, Twelve}
+use Rattle.layout.specs.declared.kind.Kind.{Kind}
 use Rattle.layout.specs.declared.kind.Kind.the-variants.{Brightness, Difference}
 use Rattle.layout.specs.Layout.{bitsOf, topOf}
 use Rattle.layout.proofs.Depths.{Steps, depth-steps}
 use Rattle.scales.specs.declared.scale.Scale.{Scale}
 use Rattle.scales.specs.Scale.{scaleOf}
+use Rattle.scales.proofs.Scales.{fine}
 use Rattle.color_equations.specs.declared.weights.Weights.{Weights}
 use Rattle.color_equations.specs.Weights.{greenOf}
 use Rattle.color_rows.specs.declared.green.GreenTerms.{GreenTerms}
@@ -24,7 +26,7 @@ use Rattle.color_rows.specs.declared.linear.Row.{Row}
 use Rattle.color_rows.specs.declared.numbers.Numbers.{Numbers}
 use Rattle.color_rows.specs.declared.rgb.Spread.{Spread}
 use Rattle.color_rows.specs.inner.Green.{ratioOf, narrowGreenValue}
-use Rattle.color_rows.specs.inner.Rows.{codedOf, codeRow, lumaValue, cbValue, crValue, spreadOf, redValue, blueValue, greenValue, greenRowFrom, greenRow}
+use Rattle.color_rows.specs.inner.Rows.{codedOf, codeRow, lumaValue, cbValue, crValue, fullSpread, spreadOf, redValue, blueValue, greenValue, plainGreenRow, greenRowFrom, greenRow}
 use Rattle.color_rows.specs.inner.Sizes.{Small, Fits, SmallScale, SmallWeights, SmallGreen, SmallNumbers, SmallSpread, FullSpread, SmallRatio}
 
 -- a whole number that an f64 holds
@@ -78,28 +80,52 @@ small r top t f =
 
 -- ---- the paper's scales and spreads, once over the depth n
 
-pub difference-small : (r : Range) (n : ℕ) → Steps n → SmallScale (scaleOf r n Difference) 2048
+-- a scale is small by its base
+by-base : (r : Range) (k : Kind) (n most : ℕ) → Steps n → scaleOf r n k .base ≤ most → SmallScale (scaleOf r n k) most
+by-base r k n most s base = let f = fine r k n s in record { some = f .some; span = f .span; base = base; ends = f .order; high = f .high }
+
+difference-base : (r : Range) (n : ℕ) → Steps n → scaleOf r n Difference .base ≤ 2048
 unfolding scaleOf
-difference-small Narrow n s = record { some = omega (arith, s); span = omega (arith, s); base = omega (arith, s); ends = omega (arith, s); high = omega (arith, s) }
-difference-small Full n s = record { some = omega (arith, s); span = omega (arith, s); base = omega (arith, s); ends = omega (arith, s); high = omega (arith, s) }
+difference-base Narrow n s = omega (arith, s)
+difference-base Full n s = omega (arith, s)
+difference-base LegacyFull n s = omega (arith, s)
+
+brightness-base : (r : Range) (n : ℕ) → Steps n → scaleOf r n Brightness .base ≤ 256
+unfolding scaleOf
+brightness-base Narrow n s = omega (arith, s)
+brightness-base Full n s = omega arith
+brightness-base LegacyFull n s = omega arith
+
+pub difference-small : (r : Range) (n : ℕ) → Steps n → SmallScale (scaleOf r n Difference) 2048
+difference-small r n s = by-base r Difference n 2048 s (difference-base r n s)
 
 pub brightness-small : (r : Range) (n : ℕ) → Steps n → SmallScale (scaleOf r n Brightness) 256
-unfolding scaleOf
-brightness-small Narrow n s = record { some = omega (arith, s); span = omega (arith, s); base = omega (arith, s); ends = omega (arith, s); high = omega (arith, s) }
-brightness-small Full n s = record { some = omega (arith, s); span = omega (arith, s); base = omega arith; ends = omega (arith, s); high = omega (arith, s) }
+brightness-small r n s = by-base r Brightness n 256 s (brightness-base r n s)
+
+-- of a full range, by its span
+spread-by : (span n : ℕ) → Steps n → 0 < span → span ≤ 4096 → FullSpread (fullSpread span (2 ^ (n - 1)))
+spread-by span n s some most = record { luma = lit≤ tt; chroma = lit≤ tt; some = some; whole = most; black = omega arith; neutral = omega (arith, s) }
+
+pub full-spread : (n : ℕ) → Steps n → FullSpread (spreadOf Full n)
+full-spread n s = spread-by (topOf n) n s (omega (arith, s)) (omega (arith, s))
+
+pub legacy-spread : (n : ℕ) → Steps n → FullSpread (spreadOf LegacyFull n)
+legacy-spread n s = spread-by (2 ^ n) n s (omega (arith, s)) (omega (arith, s))
+
+full-small : (s : Spread) → FullSpread s → SmallSpread s
+full-small s h = record { luma = omega (arith, h .luma); chroma = omega (arith, h .chroma); some = h .some; whole = omega (arith, h .whole); black = omega (arith, h .black); neutral = h .neutral }
 
 pub spread-small : (r : Range) (n : ℕ) → Steps n → SmallSpread (spreadOf r n)
 spread-small Narrow n s = record { luma = lit≤ tt; chroma = lit≤ tt; some = omega (arith, s); whole = omega (arith, s); black = omega (arith, s); neutral = omega (arith, s) }
-spread-small Full n s = record { luma = lit≤ tt; chroma = lit≤ tt; some = omega (arith, s); whole = omega (arith, s); black = omega arith; neutral = omega (arith, s) }
-
-pub full-spread : (n : ℕ) → Steps n → FullSpread (spreadOf Full n)
-full-spread n s = record { luma = lit≤ tt; chroma = lit≤ tt; some = omega (arith, s); whole = omega (arith, s); black = omega arith; neutral = omega (arith, s) }
+spread-small Full n s = full-small (spreadOf Full n) (full-spread n s)
+spread-small LegacyFull n s = full-small (spreadOf LegacyFull n) (legacy-spread n s)
 
 pub ratio-small : (r : Range) (d : Depth) → SmallRatio (ratioOf r d)
 ratio-small Narrow d = record { some = lit< tt; whole = lit≤ tt }
 ratio-small Full Eight = record { some = lit< tt; whole = lit≤ tt }
 ratio-small Full Ten = record { some = lit< tt; whole = lit≤ tt }
 ratio-small Full Twelve = record { some = lit< tt; whole = lit≤ tt }
+ratio-small LegacyFull d = record { some = lit< tt; whole = lit≤ tt }
 
 pub top-most : (n : ℕ) → Steps n → topOf n ≤ 4095
 top-most n s = omega (arith, s)
@@ -206,14 +232,23 @@ module _ (g : GreenTerms) (h : SmallGreen g) where
       coded-fits (narrowGreenValue g s r) (r .span) sc top 4352347206 (1821147206 * n + 2531200000 * b) (13198400000 * w) S B T (omega (arith, h .luma, h .red, h .blue))
       (omega (arith, terms-neutral g s h n neutral, terms-black g s h b black)) (mul-pos (h .some) some) (terms-half g s h (r .whole) w whole) span base most ends high over all
 
+  -- where one ratio serves every depth, so do the bounds of 12 bits
+  at-12-bits : (to : Range) (d : Depth) (w S : ℕ) → ratioOf to d .whole ≤ w → ratioOf to d .span ≤ S
+      → 2 * (13198400000 * w) ≤ 2 ^ 40 → S * 4352347206 * 4095 + S * (1821147206 * 2048 + 2531200000 * 256) + (2 * 256 + 1) * (13198400000 * w) + 8192 * (13198400000 * w) ≤ 2 ^ 53
+      → Fits (codedOf (narrowGreenValue g (spreadOf Narrow (bitsOf d)) (ratioOf to d)) (ratioOf to d .span) (scaleOf to (bitsOf d) Brightness)) (topOf (bitsOf d))
+  at-12-bits to d w S whole span over all =
+      let n = bitsOf d in
+      let s = spread-small Narrow n (depth-steps d) in
+      let k = brightness-small to n (depth-steps d) in
+      within (spreadOf Narrow n) (ratioOf to d) (scaleOf to n Brightness) (topOf n) 256 2048 w S 256 4095 (s .black) (s .neutral) (ratio-small to d .some) whole span (k .base) (top-most n (depth-steps d)) (k .ends) (k .high) over all
+
   pub narrow-green-fits : (to : Range) (d : Depth) → Fits (codedOf (narrowGreenValue g (spreadOf Narrow (bitsOf d)) (ratioOf to d)) (ratioOf to d .span) (scaleOf to (bitsOf d) Brightness)) (topOf (bitsOf d))
   unfolding scaleOf
-  narrow-green-fits Narrow Eight = within _ _ _ _ 16 128 7 73 16 255 (lit≤ tt) (lit≤ tt) (lit< tt) (lit≤ tt) (lit≤ tt) (lit≤ tt) (lit≤ tt) (lit≤ tt) (lit≤ tt) (lit≤ tt) (lit≤ tt)
-  narrow-green-fits Narrow Ten = within _ _ _ _ 64 512 7 73 64 1023 (lit≤ tt) (lit≤ tt) (lit< tt) (lit≤ tt) (lit≤ tt) (lit≤ tt) (lit≤ tt) (lit≤ tt) (lit≤ tt) (lit≤ tt) (lit≤ tt)
-  narrow-green-fits Narrow Twelve = within _ _ _ _ 256 2048 7 73 256 4095 (lit≤ tt) (lit≤ tt) (lit< tt) (lit≤ tt) (lit≤ tt) (lit≤ tt) (lit≤ tt) (lit≤ tt) (lit≤ tt) (lit≤ tt) (lit≤ tt)
+  narrow-green-fits Narrow d = at-12-bits Narrow d 7 73 (lit≤ tt) (lit≤ tt) (lit≤ tt) (lit≤ tt)
   narrow-green-fits Full Eight = within _ _ _ _ 16 128 7 85 0 255 (lit≤ tt) (lit≤ tt) (lit< tt) (lit≤ tt) (lit≤ tt) (lit≤ tt) (lit≤ tt) (lit≤ tt) (lit≤ tt) (lit≤ tt) (lit≤ tt)
   narrow-green-fits Full Ten = within _ _ _ _ 64 512 28 341 0 1023 (lit≤ tt) (lit≤ tt) (lit< tt) (lit≤ tt) (lit≤ tt) (lit≤ tt) (lit≤ tt) (lit≤ tt) (lit≤ tt) (lit≤ tt) (lit≤ tt)
   narrow-green-fits Full Twelve = within _ _ _ _ 256 2048 16 195 0 4095 (lit≤ tt) (lit≤ tt) (lit< tt) (lit≤ tt) (lit≤ tt) (lit≤ tt) (lit≤ tt) (lit≤ tt) (lit≤ tt) (lit≤ tt) (lit≤ tt)
+  narrow-green-fits LegacyFull d = at-12-bits LegacyFull d 21 256 (lit≤ tt) (lit≤ tt) (lit≤ tt) (lit≤ tt)
 
 -- ---- every row of a conversion
 module _ (m : Numbers) (h : SmallNumbers m) where
@@ -247,11 +282,14 @@ module _ (m : Numbers) (h : SmallNumbers m) where
   pub blue-row-fits : Fits (codeRow (blueValue (m .weights) (spreadOf (m .from) n)) y) (topOf n)
   blue-row-fits = blue-fits (m .weights) (spreadOf (m .from) n) y (topOf n) (h .weights) (brightness-small (m .to) n steps) (top-most n steps) (spread-small (m .from) n steps)
 
-  -- out of either range
+  full-row-fits : (from : Range) → FullSpread (spreadOf from n) → Fits (plainGreenRow from m) (topOf n)
+  full-row-fits from s = green-fits (m .weights) (spreadOf from n) y (topOf n) (h .weights) (brightness-small (m .to) n steps) (top-most n steps) s
+
   green-from-fits : (from : Range) → Fits (greenRowFrom from m) (topOf n)
   unfolding greenRowFrom
   green-from-fits Narrow = narrow-green-fits (m .green) (h .green) (m .to) (m .depth)
-  green-from-fits Full = green-fits (m .weights) (spreadOf Full n) y (topOf n) (h .weights) (brightness-small (m .to) n steps) (top-most n steps) (full-spread n steps)
+  green-from-fits Full = full-row-fits Full (full-spread n steps)
+  green-from-fits LegacyFull = full-row-fits LegacyFull (legacy-spread n steps)
 
   pub green-row-fits : Fits (greenRow m) (topOf n)
   green-row-fits = green-from-fits (m .from)

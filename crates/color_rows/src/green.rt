@@ -79,6 +79,10 @@ pub(crate) fn ratio_of(range: Range, depth: Depth) -> Ratio
                 whole: 16,
             },
         },
+        Range::LegacyFull => Ratio {
+            span: 256,
+            whole: 21,
+        },
     }
 }
 

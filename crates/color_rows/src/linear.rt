@@ -32,7 +32,7 @@ pub struct Row {
     pub high: u16,
 }
 
-// The row whose whole part is the code of a value on a scale: 1/2 + span * value + base. It serves both ranges: the paper's
+// The row whose whole part is the code of a value on a scale: 1/2 + span * value + base. It serves every range: the paper's
 // two roundings differ only below 0, where both clamp to the low end.
 fn coded(value: Value, span: u64, to: Scale) -> Row
     requires { ⌜ Small (codedOf value span to) ⌝ }

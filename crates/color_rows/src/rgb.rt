@@ -3,7 +3,7 @@ ghost use mathlib.Core.Path.{_≡_};
 ghost use Rattle.layout.specs.declared.kind.Kind.the-variants.{Brightness};
 ghost use Rattle.layout.specs.Layout.{bitsOf};
 ghost use Rattle.scales.specs.Scale.{scaleOf};
-ghost use Rattle.color_rows.specs.inner.Rows.{floatsOf, spreadOf, redValue, blueValue, greenValue, greenRow, rgbRows};
+ghost use Rattle.color_rows.specs.inner.Rows.{floatsOf, fullSpread, spreadOf, redValue, blueValue, greenValue, greenRow, rgbRows};
 ghost use Rattle.color_rows.specs.inner.Sizes.{SmallWeights, SmallSpread, FullSpread, SmallNumbers};
 use crate::green::green_of_narrow;
 use crate::green::ratio_of;
@@ -28,11 +28,25 @@ pub struct Spread {
     pub neutral: u64,
 }
 
+// In a full range both scales have one span, and black is 0.
+fn full_spread(span: u64, neutral: u64) -> Spread
+    ensures { λ r. ⌜ r ≡ fullSpread span neutral ⌝ }
+{
+    Spread {
+        luma: 1,
+        chroma: 1,
+        whole: span,
+        black: 0,
+        neutral,
+    }
+}
+
 fn spread_of(range: Range, depth: Depth) -> Spread
     ensures { λ r. ⌜ r ≡ spreadOf range (bitsOf depth) ⌝ }
 {
     let s = depth.step() as u64;
     let m = depth.top() as u64;
+    let whole = m + 1;
     match range {
         Range::Narrow => Spread {
             luma: 224,
@@ -41,13 +55,8 @@ fn spread_of(range: Range, depth: Depth) -> Spread
             black: 16 * s,
             neutral: 128 * s,
         },
-        Range::Full => Spread {
-            luma: 1,
-            chroma: 1,
-            whole: m,
-            black: 0,
-            neutral: (m + 1) / 2,
-        },
+        Range::Full => full_spread(m, whole / 2),
+        Range::LegacyFull => full_spread(whole, whole / 2),
     }
 }
 
@@ -95,7 +104,7 @@ fn blue(w: Weights, from: Spread) -> Value
     }
 }
 
-// G' from the equation for Y', out of full range: G' = Y' - (2 KR (1 - KR) Cr + 2 KB (1 - KB) Cb) / KG, with
+// G' from the equation for Y', out of a full range: G' = Y' - (2 KR (1 - KR) Cr + 2 KB (1 - KB) Cb) / KG, with
 // KG = 1 - KR - KB.
 fn green_of_full(w: Weights, from: Spread) -> Value
     requires { ⌜ SmallWeights w × FullSpread from ⌝ }
@@ -122,7 +131,7 @@ fn green_of_full(w: Weights, from: Spread) -> Value
     }
 }
 
-// G' out of either range.
+// G' out of each range.
 fn green_row(numbers: Numbers, spread: Spread, out: Scale) -> FloatRow
     requires { ⌜ SmallNumbers numbers × (spread ≡ spreadOf (numbers .from) (bitsOf (numbers .depth))) ⌝ }
     requires { ⌜ out ≡ scaleOf (numbers .to) (bitsOf (numbers .depth)) Brightness ⌝ }
@@ -140,7 +149,9 @@ fn green_row(numbers: Numbers, spread: Spread, out: Scale) -> FloatRow
                 out,
             )
         }
-        Range::Full => float_row(green_of_full(numbers.weights, spread), out.span as u64, out),
+        Range::Full | Range::LegacyFull => {
+            float_row(green_of_full(numbers.weights, spread), out.span as u64, out)
+        }
     }
 }
 

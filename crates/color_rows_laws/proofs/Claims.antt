@@ -1,8 +1,8 @@
 -- The claims of specs/Claims.antt. Assumes nothing.
-use mathlib.Core.Path.{_≡_, _∙_}
+use mathlib.Core.Path.{_≡_, refl, _∙_}
 use Prim.Native.Nat.{ℕ, _≤_}
 use Rattle.layout.specs.declared.range.Range.{Range}
-use Rattle.layout.specs.declared.range.Range.the-variants.{Narrow, Full}
+use Rattle.layout.specs.declared.range.Range.the-variants.{Narrow, Full, LegacyFull}
 use Rattle.layout.specs.declared.kind.Kind.the-variants.{Brightness, Difference}
 use Rattle.layout.specs.Layout.{bitsOf, topOf}
 use Rattle.layout.proofs.Depths.{Steps, depth-steps, known-bits}
@@ -14,7 +14,7 @@ use Rattle.color_line.specs.inner.Rows.{rowCode, rowsCode}
 use Rattle.color_rows.specs.declared.linear.Row.{Row}
 use Rattle.color_rows.specs.declared.numbers.Numbers.{Numbers}
 use Rattle.color_rows.specs.inner.Known.{numbersOf}
-use Rattle.color_rows.specs.inner.Rows.{wholeAt, codeRow, floatsOf, spreadOf, greenValue, greenRowFrom, ycbcrRows, rgbRows}
+use Rattle.color_rows.specs.inner.Rows.{wholeAt, floatsOf, plainGreenRow, greenRowFrom, ycbcrRows, rgbRows}
 use Rattle.color_rows.specs.inner.Sizes.{Fits, SmallNumbers}
 use Rattle.color_rows.proofs.Known.{passed, numbers-small}
 use Rattle.color_rows.proofs.Sizes.{top-least, top-most, luma-row-fits, cb-row-fits, cr-row-fits, red-row-fits, green-row-fits, blue-row-fits}
@@ -45,11 +45,12 @@ module _ (m : Numbers) (h : SmallNumbers m) (x y z : ℕ) where
     abbrev out : Scale
     out = scaleOf (m .to) n Brightness
 
-    -- G' out of either range is the equation's
-    green-whole : Right (m .weights) (m .green) → (from : Range) → wholeAt (greenRowFrom from m) x y z ≡ wholeAt (codeRow (greenValue (m .weights) (spreadOf from n)) out) x y z
+    -- G' out of each range is the equation's
+    green-whole : Right (m .weights) (m .green) → (from : Range) → wholeAt (greenRowFrom from m) x y z ≡ wholeAt (plainGreenRow from m) x y z
     unfolding greenRowFrom
     green-whole r Narrow = lowest-whole (m .weights) (m .green) (m .to) (m .depth) r x y z
-    green-whole r Full = λ i. wholeAt (codeRow (greenValue (m .weights) (spreadOf Full n)) out) x y z
+    green-whole r Full = refl
+    green-whole r LegacyFull = refl
 
     rgb-exact : Right (m .weights) (m .green) → (j : ℕ) → rowsCode (rgbRows m) x y z j ≡ rgbOf (m .weights) n (m .from) (m .to) x y z j
     unfolding rowsCode rgbRows

@@ -6,7 +6,7 @@ use native.Mathlib.Omega.{arith}
 use lib.Dec.{lit<}
 use lib.IntN.{pos, _-ℤ_}
 use Rattle.layout.specs.declared.range.Range.{Range}
-use Rattle.layout.specs.declared.range.Range.the-variants.{Narrow, Full}
+use Rattle.layout.specs.declared.range.Range.the-variants.{Narrow, Full, LegacyFull}
 use Rattle.layout.specs.declared.kind.Kind.the-variants.{Brightness, Difference}
 use Rattle.layout.proofs.Depths.{Steps}
 use Rattle.fractions.specs.Fraction.{Fraction, Same, _over_, bounded}
@@ -73,6 +73,7 @@ spreads : (r : Range) (n : ℕ) → Spreads r n
 unfolding scaleOf
 spreads Narrow n = record { luma = omega arith; chroma = omega arith; black = refl; neutral = refl }
 spreads Full n = record { luma = omega arith; chroma = omega arith; black = refl; neutral = refl }
+spreads LegacyFull n = record { luma = omega arith; chroma = omega arith; black = refl; neutral = refl }
 
 -- ---- every channel, on any scale of what comes out
 module _ (w : Weights) (n : ℕ) (from : Range) (g : SmallWeights w) (h : Steps n) (out : Scale) where

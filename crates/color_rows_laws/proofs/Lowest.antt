@@ -5,12 +5,12 @@ use Prim.Native.Nat.{ℕ, suc, _+_, _-_, _*_, _/_, _<_}
 use native.Mathlib.Nat.{mul-assoc, mul-comm, mul-left-comm, mul-add, add-mul, mul-pos, mul-div-mul-right}
 use native.Mathlib.Omega.{arith}
 use borrow.Author.Tests.{eqb-true, leb-true}
-use lib.Dec.{eqb, leb, lit<}
+use lib.Dec.{eqb, leb}
 use Rattle.lists.specs.Lists.{tabulate, every}
 use Rattle.lists.proofs.Tests.{and-left, and-right}
 use Rattle.lists.proofs.Numbers.{sub-mul}
 use Rattle.layout.specs.declared.range.Range.{Range}
-use Rattle.layout.specs.declared.range.Range.the-variants.{Narrow, Full}
+use Rattle.layout.specs.declared.range.Range.the-variants.{Narrow, Full, LegacyFull}
 use Rattle.layout.specs.declared.depth.Depth.{Depth}
 use Rattle.layout.specs.declared.depth.Depth.the-variants.{Eight, Ten, Twelve}
 use Rattle.layout.specs.declared.kind.Kind.the-variants.{Brightness}
@@ -26,6 +26,7 @@ use Rattle.color_rows.specs.declared.green.Ratio.{Ratio}
 use Rattle.color_rows.specs.declared.linear.Row.{Row}
 use Rattle.color_rows.specs.inner.Green.{greenTerms, ratioOf, narrowGreenValue}
 use Rattle.color_rows.specs.inner.Rows.{plusAt, minusAt, wholeAt, codedOf, codeRow, spreadOf, greenValue}
+use Rattle.color_rows.proofs.Sizes.{ratio-small}
 
 -- ---- rows of one fraction
 
@@ -119,12 +120,7 @@ ratio-right Narrow Twelve = refl
 ratio-right Full Eight = refl
 ratio-right Full Ten = refl
 ratio-right Full Twelve = refl
-
-ratio-some : (to : Range) (d : Depth) → 0 < ratioOf to d .whole
-ratio-some Narrow d = lit< tt
-ratio-some Full Eight = lit< tt
-ratio-some Full Ten = lit< tt
-ratio-some Full Twelve = lit< tt
+ratio-right LegacyFull d = omega (arith, depth-steps d)
 
 -- ---- both rows of G'
 
@@ -213,4 +209,4 @@ module _ (w : Weights) (g : GreenTerms) (to : Range) (d : Depth) (h : Right w g)
       }
 
   pub lowest-whole : (y cb cr : ℕ) → wholeAt lowest-row y cb cr ≡ wholeAt whole-row y cb cr
-  lowest-whole y cb cr = sym (alike-whole whole-row lowest-row k l (ratio-some to d) (mul-pos {m = 21 * s} (omega (arith, depth-steps d)) (h .some)) both y cb cr)
+  lowest-whole y cb cr = sym (alike-whole whole-row lowest-row k l (ratio-small to d .some) (mul-pos {m = 21 * s} (omega (arith, depth-steps d)) (h .some)) both y cb cr)

@@ -3,7 +3,7 @@ use Prim.Native.Nat.{ℕ, _+_, _-_, _*_}
 use mathlib.Core.List.{List, [], _∷_}
 use lib.ListN.{getD}
 use Rattle.layout.specs.declared.range.Range.{Range}
-use Rattle.layout.specs.declared.range.Range.the-variants.{Narrow, Full}
+use Rattle.layout.specs.declared.range.Range.the-variants.{Narrow, Full, LegacyFull}
 use Rattle.layout.specs.declared.depth.Depth.{Depth}
 use Rattle.layout.specs.declared.depth.Depth.the-variants.{Eight, Ten, Twelve}
 use Rattle.color_rows.specs.declared.green.GreenTerms.{GreenTerms}
@@ -29,6 +29,7 @@ ratioOf Narrow d = record { span = 73; whole = 7 }
 ratioOf Full Eight = record { span = 85; whole = 7 }
 ratioOf Full Ten = record { span = 341; whole = 28 }
 ratioOf Full Twelve = record { span = 195; whole = 16 }
+ratioOf LegacyFull d = record { span = 256; whole = 21 }
 
 -- G' for the span of a ratio
 unfoldable pub narrowGreenValue : GreenTerms → Spread → Ratio → Value

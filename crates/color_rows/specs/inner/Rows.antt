@@ -3,7 +3,7 @@ use Prim.Native.Nat.{ℕ, _+_, _-_, _*_, _/_, _^_}
 use lib.IntN.{pos, _-ℤ_}
 use lib.Ieee.{Float, binary64, ofInt}
 use Rattle.layout.specs.declared.range.Range.{Range}
-use Rattle.layout.specs.declared.range.Range.the-variants.{Narrow, Full}
+use Rattle.layout.specs.declared.range.Range.the-variants.{Narrow, Full, LegacyFull}
 use Rattle.layout.specs.declared.kind.Kind.the-variants.{Brightness, Difference}
 use Rattle.layout.specs.Layout.{bitsOf, stepOf, topOf}
 use Rattle.fractions.specs.Fraction.{bounded}
@@ -33,7 +33,7 @@ minusAt v x y z = v .minus0 * x + v .minus1 * y + v .minus2 * z + v .minus
 abbrev pub wholeAt : Row → ℕ → ℕ → ℕ → ℕ
 wholeAt r x y z = bounded (r .low) (r .high) ((plusAt (r .sum) x y z - minusAt (r .sum) x y z) / r .over)
 
--- of a value on a scale, half a code more: 1/2 + span * value + base. It serves both ranges: the paper's two roundings differ only below 0, where both clamp to the low end.
+-- of a value on a scale, half a code more: 1/2 + span * value + base. It serves every range: the paper's two roundings differ only below 0, where both clamp to the low end.
 unfoldable pub codedOf : Value → ℕ → Scale → Row
 codedOf v span sc =
     record {
@@ -108,10 +108,14 @@ ycbcrRows m =
 
 -- ---- to R'G'B'
 
--- Y' is luma (y - black) / whole, and Cb chroma (cb - neutral) / whole; whole is the least common multiple of both spans
+-- Y' is luma (y - black) / whole, and Cb chroma (cb - neutral) / whole; whole is the least common multiple of both spans, which in a full range are one
+abbrev pub fullSpread : (span neutral : ℕ) → Spread
+fullSpread span neutral = record { luma = 1; chroma = 1; whole = span; black = 0; neutral = neutral }
+
 abbrev pub spreadOf : Range → ℕ → Spread
 spreadOf Narrow n = record { luma = 224; chroma = 219; whole = 49056 * stepOf n; black = 16 * stepOf n; neutral = 128 * stepOf n }
-spreadOf Full n = record { luma = 1; chroma = 1; whole = topOf n; black = 0; neutral = 2 ^ (n - 1) }
+spreadOf Full n = fullSpread (topOf n) (2 ^ (n - 1))
+spreadOf LegacyFull n = fullSpread (2 ^ n) (2 ^ (n - 1))
 
 unfoldable pub redValue : Weights → Spread → Value
 redValue w s =
@@ -162,16 +166,19 @@ greenValue w s =
       half = 5000 * greenOf w * s .whole;
     }
 
--- out of either range
+-- its row
+abbrev pub plainGreenRow : Range → Numbers → Row
+plainGreenRow from m = let n = bitsOf (m .depth) in codeRow (greenValue (m .weights) (spreadOf from n)) (scaleOf (m .to) n Brightness)
+
+-- out of narrow range in lowest terms, and out of a full range as the equation stands
 unfoldable pub greenRowFrom : Range → Numbers → Row
 unfolding codedOf greenValue narrowGreenValue
 greenRowFrom Narrow m =
     let n = bitsOf (m .depth) in
     let ratio = ratioOf (m .to) (m .depth) in
     codedOf (narrowGreenValue (m .green) (spreadOf Narrow n) ratio) (ratio .span) (scaleOf (m .to) n Brightness)
-greenRowFrom Full m =
-    let n = bitsOf (m .depth) in
-    codeRow (greenValue (m .weights) (spreadOf Full n)) (scaleOf (m .to) n Brightness)
+greenRowFrom Full m = plainGreenRow Full m
+greenRowFrom LegacyFull m = plainGreenRow LegacyFull m
 
 abbrev pub greenRow : Numbers → Row
 greenRow m = greenRowFrom (m .from) m

@@ -52,7 +52,7 @@ pub record SmallSpread (s : Spread) : Type 0 where
   pub black : s .black ≤ 256
   pub neutral : s .neutral ≤ 2048
 
--- that of full range
+-- those of the full ranges
 pub record FullSpread (s : Spread) : Type 0 where
   pub luma : s .luma ≤ 1
   pub chroma : s .chroma ≤ 1

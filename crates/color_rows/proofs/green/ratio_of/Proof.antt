@@ -19,6 +19,9 @@ enum-told-4 c = search needs
 enum-told-5 : tie.Need-enum-told-5
 enum-told-5 c = search needs
 
+enum-told-6 : tie.Need-enum-told-6
+enum-told-6 c = search needs
+
 returns : tie.Need-returns
 returns c = rw (c .enum-told .given .1) refl
 
@@ -31,6 +34,9 @@ returns-3 c = rw (c .before .before .enum-told2 .given .1, c .enum-told4 .given 
 returns-4 : tie.Need-returns-4
 returns-4 c = rw (c .before .before .enum-told2 .given .1, c .enum-told5 .given .1) refl
 
+returns-5 : tie.Need-returns-5
+returns-5 c = rw (c .enum-told6 .given .1) refl
+
 pub ratio-of-spec : {M : Type 1} → statement M
 ratio-of-spec =
     tie.close
@@ -40,7 +46,9 @@ ratio-of-spec =
     enum-told-3
     enum-told-4
     enum-told-5
+    enum-told-6
     returns
     returns-2
     returns-3
-    returns-4)
+    returns-4
+    returns-5)

@@ -1,13 +1,12 @@
--- `color_rows::green_row` meets its contract, out of either range. Assumes nothing.
+-- `color_rows::green_row` meets its contract, out of each range. Assumes nothing.
 use borrow.Author.Needs.{needs}
 use mathlib.Core.Path.{sym, ap, _∙_, subst}
-use Rattle.layout.specs.declared.range.Range.{Range}
 use Rattle.layout.specs.Layout.{bitsOf}
 use Rattle.layout.proofs.Depths.{depth-steps}
-use Rattle.color_rows.specs.inner.Rows.{spreadOf, greenRow, floatsOf}
+use Rattle.color_rows.specs.inner.Rows.{greenRow, floatsOf}
 use Rattle.color_rows.specs.inner.Sizes.{Small, SmallSpread, FullSpread, SmallRatio}
-use Rattle.color_rows.proofs.Sizes.{spread-small, full-spread, ratio-small, small-row, green-row-fits}
-use Rattle.color_rows.proofs.Ranges.{narrow-row, full-row}
+use Rattle.color_rows.proofs.Sizes.{spread-small, ratio-small, small-row, green-row-fits}
+use Rattle.color_rows.proofs.Ranges.{arm-spread, narrow-row, full-row}
 use Rattle.color_rows.proofs.rgb.green_row.Statement.{statement}
 use Rattle.color_rows.proofs.rgb.green_row.Tie as tie
 
@@ -29,23 +28,20 @@ float-row-requires c κs =
     let m = s .args .numbers in
     subst Small (sym (narrow-row m (s .args .spread) (s .args .out) (c .green-of-narrow .result) (s .pre .0 .1) (s .pre .1) (c .before .before .enum-told .given .1) (c .before .ratio-of .result) (c .before .ratio-of .ensures) (c .green-of-narrow .ensures))) (small-row m (s .pre .0 .0) (greenRow m) (green-row-fits m (s .pre .0 .0)))
 
-enum-told-2 : tie.Need-enum-told-2
-enum-told-2 c = search needs
-
 green-of-full-requires : tie.Need-green-of-full-requires
 green-of-full-requires c κs =
-    let s = c .before .before in
+    let s = c .before in
     let m = s .args .numbers in
-    (s .pre .0 .0 .weights, subst FullSpread (sym (s .pre .0 .1 ∙ ap (λ (r : Range). spreadOf r (bitsOf (m .depth))) (c .enum-told2 .given .1))) (full-spread (bitsOf (m .depth)) (depth-steps (m .depth))))
+    (s .pre .0 .0 .weights, subst FullSpread (sym (s .pre .0 .1)) (arm-spread (m .from) (c .match .keys2) (bitsOf (m .depth)) (depth-steps (m .depth))))
 
 cast-float-row : tie.Need-cast-float-row
 cast-float-row c = search needs
 
 float-row-requires-2 : tie.Need-float-row-requires-2
 float-row-requires-2 c κs =
-    let s = c .before .before .before .before in
+    let s = c .before .before .before in
     let m = s .args .numbers in
-    subst Small (sym (full-row m (s .args .spread) (s .args .out) (c .before .green-of-full .result) (s .pre .0 .1) (s .pre .1) (c .before .before .enum-told2 .given .1) (c .before .green-of-full .ensures))) (small-row m (s .pre .0 .0) (greenRow m) (green-row-fits m (s .pre .0 .0)))
+    subst Small (sym (full-row m (s .args .spread) (s .args .out) (c .before .green-of-full .result) (s .pre .0 .1) (s .pre .1) (c .before .before .match .keys2) (c .before .green-of-full .ensures))) (small-row m (s .pre .0 .0) (greenRow m) (green-row-fits m (s .pre .0 .0)))
 
 returns : tie.Need-returns
 returns c =
@@ -55,9 +51,9 @@ returns c =
 
 returns-2 : tie.Need-returns-2
 returns-2 c =
-    let s = c .before .before .before .before .before in
+    let s = c .before .before .before .before in
     let m = s .args .numbers in
-    c .float-row2 .ensures ∙ ap floatsOf (full-row m (s .args .spread) (s .args .out) (c .before .before .green-of-full .result) (s .pre .0 .1) (s .pre .1) (c .before .before .before .enum-told2 .given .1) (c .before .before .green-of-full .ensures))
+    c .float-row2 .ensures ∙ ap floatsOf (full-row m (s .args .spread) (s .args .out) (c .before .before .green-of-full .result) (s .pre .0 .1) (s .pre .1) (c .before .before .before .match .keys2) (c .before .before .green-of-full .ensures))
 
 pub green-row-spec : {M : Type 1} → statement M
 green-row-spec =
@@ -67,7 +63,6 @@ green-row-spec =
     ratio-of-requires
     green-of-narrow-requires
     float-row-requires
-    enum-told-2
     green-of-full-requires
     cast-float-row
     float-row-requires-2

@@ -1,12 +1,21 @@
 -- `color_rows::spread_of` meets its contract. Assumes nothing.
 use borrow.Author.Needs.{needs}
-use mathlib.Core.Path.{_≡_, refl}
+use mathlib.Core.Path.{_≡_, refl, ap, ap₂, _∙_}
 use Prim.Native.Nat.{_+_, _-_, _/_, _^_}
 use native.Mathlib.Omega.{arith}
+use Rattle.layout.specs.declared.depth.Depth.{Depth}
 use Rattle.layout.specs.Layout.{bitsOf, topOf}
 use Rattle.layout.proofs.Depths.{depth-steps}
+use Rattle.color_rows.specs.inner.Rows.{fullSpread}
 use Rattle.color_rows.proofs.rgb.spread_of.Statement.{statement}
 use Rattle.color_rows.proofs.rgb.spread_of.Tie as tie
+
+-- the code's numbers are powers of two
+whole : (d : Depth) → topOf (bitsOf d) + 1 ≡ 2 ^ bitsOf d
+whole d = omega (arith, depth-steps d)
+
+half : (d : Depth) → (topOf (bitsOf d) + 1) / 2 ≡ 2 ^ (bitsOf d - 1)
+half d = omega (arith, depth-steps d)
 
 step-requires : tie.Need-step-requires
 step-requires c κs = search needs
@@ -20,11 +29,11 @@ top-requires c κs = search needs
 cast-m : tie.Need-cast-m
 cast-m c = search needs
 
+add-whole : tie.Need-add-whole
+add-whole c = search needs
+
 enum-told : tie.Need-enum-told
 enum-told c = search needs
-
-mul-t7 : tie.Need-mul-t7
-mul-t7 c = search needs
 
 mul-t8 : tie.Need-mul-t8
 mul-t8 c = search needs
@@ -32,20 +41,33 @@ mul-t8 c = search needs
 mul-t9 : tie.Need-mul-t9
 mul-t9 c = search needs
 
+mul-t10 : tie.Need-mul-t10
+mul-t10 c = search needs
+
 enum-told-2 : tie.Need-enum-told-2
 enum-told-2 c = search needs
 
-add-t10 : tie.Need-add-t10
-add-t10 c = search needs
+full-spread-requires : tie.Need-full-spread-requires
+full-spread-requires c κs = search needs
+
+enum-told-3 : tie.Need-enum-told-3
+enum-told-3 c = search needs
+
+full-spread-requires-2 : tie.Need-full-spread-requires-2
+full-spread-requires-2 c κs = search needs
 
 returns : tie.Need-returns
 returns c = rw (c .before .before .before .step .ensures, c .enum-told .given .1) refl
 
 returns-2 : tie.Need-returns-2
 returns-2 c =
-    let d = c .before .before .before .before .args .depth in
-    let half : (topOf (bitsOf d) + 1) / 2 ≡ 2 ^ (bitsOf d - 1) = omega (arith, depth-steps d) in
-    rw (c .before .before .top .ensures, c .enum-told2 .given .1, half) refl
+    let d = c .before .before .before .before .before .args .depth in
+    c .full-spread .ensures ∙ rw (c .before .before .before .top .ensures, c .before .enum-told2 .given .1) (ap (fullSpread (topOf (bitsOf d))) (half d))
+
+returns-3 : tie.Need-returns-3
+returns-3 c =
+    let d = c .before .before .before .before .before .args .depth in
+    c .full-spread2 .ensures ∙ rw (c .before .before .before .top .ensures, c .before .enum-told3 .given .1) (ap₂ fullSpread (whole d) (half d))
 
 pub spread-of-spec : {M : Type 1} → statement M
 spread-of-spec =
@@ -55,11 +77,15 @@ spread-of-spec =
     cast-s
     top-requires
     cast-m
+    add-whole
     enum-told
-    mul-t7
     mul-t8
     mul-t9
+    mul-t10
     enum-told-2
-    add-t10
+    full-spread-requires
+    enum-told-3
+    full-spread-requires-2
     returns
-    returns-2)
+    returns-2
+    returns-3)
