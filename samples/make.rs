@@ -19,6 +19,16 @@ const BITS_12: [u8; 8] = [1, 4, 2, 12, 5, 24, 12, 0];
 
 const LAYOUTS: [[u8; 8]; 3] = [BITS_8, BITS_10, BITS_12];
 
+/// An early capture by the old JFIF rule: Y'CbCr, BT.601 EBU, range 3, 8 bits in three bytes.
+const EARLY_8: [u8; 8] = [2, 2, 3, 8, 3, 0, 8, 16];
+
+/// An early capture by BT.2100-0: R'G'B', BT.2020, range 3, 12 bits in five bytes.
+const EARLY_12: [u8; 8] = [1, 4, 3, 12, 5, 24, 12, 0];
+
+/// The newest edition, at which stacks are listed, and one that comes later.
+const NEWEST: u8 = 3;
+const LATER: u8 = NEWEST + 1;
+
 /// Places of a card's bytes.
 const LEAST: usize = 0;
 const WRITER: usize = 1;
@@ -96,23 +106,29 @@ fn archive() -> Vec<Card> {
         written(2, BITS_12, 4096, 2160, 305_550, CLOSED),
         written(2, BITS_12, 4096, 2160, 305_551, OPEN),
         changed(written(2, BITS_8, 1920, 1080, 203_003, OPEN), &[(DEPTH, 9)]),
-        changed(written(2, BITS_10, 1920, 1080, 412_008, OPEN), &[(WRITER, 3), (ACCESS, 4), (25, 1)]),
-        changed(written(2, BITS_12, 4096, 2160, 412_009, OPEN), &[(LEAST, 3), (WRITER, 3)]),
+        changed(written(2, BITS_10, 1920, 1080, 412_008, OPEN), &[(WRITER, LATER), (ACCESS, 4), (25, 1)]),
+        changed(written(2, BITS_12, 4096, 2160, 412_009, OPEN), &[(LEAST, LATER), (WRITER, LATER)]),
         changed(written(2, BITS_8, 720, 576, 100_420, OPEN), &[(ACCESS, 3)]),
+        written(3, EARLY_8, 720, 576, 117, COMMUNITY),
     ]
 }
 
-/// As many cards as a stack may have, of every kind that edition 2 tells apart.
+/// As many cards as a stack may have, of every kind that the newest edition tells apart.
 fn full() -> Vec<Card> {
     let plain = written(2, BITS_10, 720, 576, 7, OPEN);
     let first = written(1, BITS_8, 720, 576, 7, CLOSED);
+    let bits_12 = written(2, BITS_12, 720, 576, 7, OPEN);
+    let early = written(3, EARLY_8, 720, 576, 7, OPEN);
     let mut cards = Vec::new();
 
-    // Each layout and access, written at 2; at 1, where it can be.
-    for layout in LAYOUTS {
-        for access in [CLOSED, COMMUNITY, OPEN] {
+    // Each layout and access, written at each edition that has both.
+    for access in [CLOSED, COMMUNITY, OPEN] {
+        for layout in LAYOUTS {
             cards.push(written(2, layout, 1920, 1080, 11, access));
+            cards.push(written(3, layout, 1920, 1080, 11, access));
         }
+        cards.push(written(3, EARLY_8, 1920, 1080, 11, access));
+        cards.push(written(3, EARLY_12, 1920, 1080, 11, access));
     }
     cards.push(written(1, BITS_8, 1920, 1080, 12, CLOSED));
     cards.push(written(1, BITS_10, 1920, 1080, 12, CLOSED));
@@ -131,21 +147,27 @@ fn full() -> Vec<Card> {
     cards.push(written(2, BITS_10, 4096, 4096, u64::MAX, COMMUNITY));
 
     // Written later than it is read: a known access as it stands, any other closed, and the
-    // bytes behind it not looked at. Written at 2, only the three are read, with zeros behind.
+    // bytes behind it not looked at. Written at 2 or later, and not later than it is read, only
+    // the three are read, with zeros behind.
     for access in 0..=255 {
         cards.push(changed(plain, &[(ACCESS, access)]));
-        cards.push(changed(plain, &[(WRITER, 3), (ACCESS, access), (31, access)]));
+        cards.push(changed(plain, &[(WRITER, LATER), (ACCESS, access), (31, access)]));
+    }
+    for access in [0, 1, 2, 3, 4, 255] {
+        cards.push(changed(plain, &[(WRITER, 3), (ACCESS, access)]));
+        cards.push(changed(early, &[(ACCESS, access)]));
     }
     for place in ACCESS..SIZE {
         cards.push(changed(first, &[(place, 1)]));
         cards.push(changed(plain, &[(place, 1)]));
+        cards.push(changed(early, &[(place, 1)]));
         cards.push(changed(plain, &[(WRITER, 255), (place, 255)]));
     }
 
     // Byte 0 and the writer's edition, each small number and the greatest.
-    for least in [0, 1, 2, 3, 255] {
-        for writer in [0, 1, 2, 3, 255] {
-            for card in [first, plain, written(2, BITS_12, 720, 576, 7, OPEN)] {
+    for least in [0, 1, 2, 3, 4, 255] {
+        for writer in [0, 1, 2, 3, 4, 255] {
+            for card in [first, plain, bits_12, early] {
                 cards.push(changed(card, &[(LEAST, least), (WRITER, writer)]));
             }
         }

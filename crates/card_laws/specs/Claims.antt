@@ -65,7 +65,7 @@ ClosedOrAsItStands =
 abbrev pub ShowsNoOther : Type 0
 ShowsNoOther = (b : List ℕ) (e : ℕ) (f : Facts) → areBytes b ≡ true → readCard b e ≡ Shown f → getD b 1 0 ≤ e → b ≡ cardBytes (getD b 1 0) f
 
--- a card that was written later is shown if bytes 0 to 23 are the table's, whatever the others are: byte 24 is its access if the reader has that number, and else it is closed
+-- a card that was written later, for every pair of a writer and an earlier reader, is shown if bytes 0 to 23 are the table's, whatever the others are: byte 24 is its access if the reader has that number, and else it is closed
 abbrev pub ShowsLaterCards : Type 0
 ShowsLaterCards =
     (w e : ℕ) (f : Facts) (others : List ℕ) → factsValid f ≡ true → length others ≡ 8 → editionKnown e ≡ true → leastEdition f ≤ e → e < w

@@ -1,14 +1,15 @@
--- What document 01, "Card" and "Numbers on the refusal slip", prints of editions 1 and 2, beside the definitions and the claims, which are stated for any editions. proofs/Printed.antt proves each. Assumes nothing.
+-- What is printed of editions 1 to 3 in document 01, "Card" and "Numbers on the refusal slip", with request A1, beside the definitions and the claims, which are stated for any editions. proofs/Printed.antt proves each. Assumes nothing.
 use Prim.Native.Nat.{ℕ, _≤_}
-use mathlib.Core.Bool.{true, not, cond, _&&_, _||_}
+use mathlib.Core.Bool.{Bool, true, not, cond, _&&_, _||_}
 use mathlib.Core.Path.{_≡_}
 use mathlib.Core.Logic.{_⊎_}
 use mathlib.Core.List.{List}
 use lib.Dec.{eqb, leb, ltb}
 use lib.ListN.{length, getD}
 use Rattle.lists.specs.Bytes.{numberAt}
+use Rattle.layout.specs.declared.Layout.{Layout}
 use Rattle.card_table.specs.declared.facts.Facts.{Facts}
-use Rattle.card_table.specs.Edition.{editionKnown}
+use Rattle.card_table.specs.Edition.{editionKnown, leastEdition}
 use Rattle.card_table.specs.Facts.{closed}
 use Rattle.card_reader.specs.declared.CardReading.the-variants.{Shown}
 use Rattle.card_table.specs.Access.{accessOf, accessUnknown}
@@ -17,23 +18,37 @@ use Rattle.refusal.specs.declared.Written.the-variants.{Done}
 use Rattle.card_writer.specs.Writing.{unwritable}
 use Rattle.card.specs.Rewriting.{rewriteAnswer, rewriteOutput}
 
--- row 7: edition asked is not 1 or 2
+-- ---- the rows
+
+-- row 7: edition asked is not 1 to 3
 abbrev pub Row7 : Type 0
-Row7 = (e : ℕ) → editionKnown e ≡ eqb e 1 || eqb e 2
+Row7 = (e : ℕ) → editionKnown e ≡ eqb e 1 || eqb e 2 || eqb e 3
 
--- row 10: access above 2, written at 2, read at 2
+-- the edition lacks the layout: edition 1 has neither range 3 nor 12 bits, edition 2 has not range 3
+abbrev pub lacksLayout : ℕ → Layout → Bool
+lacksLayout e l = eqb e 1 && (eqb (l .range) 3 || eqb (l .depth) 12) || eqb e 2 && eqb (l .range) 3
+
+-- row 8: byte 0, which the table gives, is above the edition asked exactly where the edition lacks the layout
+abbrev pub Row8 : Type 0
+Row8 = (e : ℕ) (f : Facts) → editionKnown e ≡ true → ltb e (leastEdition f) ≡ lacksLayout e (f .layout)
+
+-- the writer is at 2 or later and not later than the reader: written at 2 and read at 2 or 3, or written at 3 and read at 3
+abbrev pub fromTwoToReader : ℕ → ℕ → Bool
+fromTwoToReader writer e = eqb writer 2 && (eqb e 2 || eqb e 3) || eqb writer 3 && eqb e 3
+
+-- row 10: access above 2 there
 abbrev pub Row10 : Type 0
-Row10 = (writer access e : ℕ) → editionKnown e ≡ true → accessUnknown writer access e ≡ ltb 2 access && (eqb writer 2 && eqb e 2)
+Row10 = (writer access e : ℕ) → editionKnown e ≡ true → accessUnknown writer access e ≡ ltb 2 access && fromTwoToReader writer e
 
--- row 11: edition 1 asked to write 12 bits, or access other than closed
+-- row 11: the edition lacks the layout, or the access, which is edition 1 asked to write any but closed
 abbrev pub Row11 : Type 0
-Row11 = (e : ℕ) (f : Facts) → editionKnown e ≡ true → unwritable e f ≡ eqb e 1 && (eqb (f .layout .depth) 12 || not (eqb (f .access) closed))
+Row11 = (e : ℕ) (f : Facts) → editionKnown e ≡ true → unwritable e f ≡ lacksLayout e (f .layout) || eqb e 1 && not (eqb (f .access) closed)
 
--- row 9 for bytes 24 to 31, which are looked at only where 1 ≤ byte 0 ≤ byte 1: written at 1, all must be zero; written at 2 and read at 2, all but the first
+-- row 9 for bytes 24 to 31, which are looked at only where 1 ≤ byte 0 ≤ byte 1: written at 1, all must be zero; written at 2 or later and not later than read, all but the first
 abbrev pub Row9OfTheEnd : Type 0
 Row9OfTheEnd =
     (b : List ℕ) (e : ℕ) → editionKnown e ≡ true → 1 ≤ writerOf b
-    → endWrong b e ≡ eqb (writerOf b) 1 && not (eqb (numberAt b 24 8) 0) || eqb (writerOf b) 2 && eqb e 2 && not (eqb (numberAt b 25 7) 0)
+    → endWrong b e ≡ eqb (writerOf b) 1 && not (eqb (numberAt b 24 8) 0) || fromTwoToReader (writerOf b) e && not (eqb (numberAt b 25 7) 0)
 
 -- the access that is shown, likewise: closed where the card was written at 1 or is read at 1; else 0, 1, 2 as they stand, and any other number closed
 abbrev pub AccessShown : Type 0
@@ -41,7 +56,7 @@ AccessShown =
     (writer access e : ℕ) → editionKnown e ≡ true → 1 ≤ writer
     → accessOf writer access e ≡ cond (eqb writer 1 || eqb e 1) closed (cond (leb access 2) access closed)
 
--- ---- the claims on access, of editions 1 and 2
+-- ---- the claims on access, in numbers
 
 -- it is closed, or byte 24 as it stands; that only where the reader and the writer are at 2 or later
 abbrev pub ClosedOrAsItStandsFrom2 : Type 0
@@ -56,8 +71,8 @@ ClosedToEdition1 = (b : List ℕ) (f : Facts) → readCard b 1 ≡ Shown f → f
 abbrev pub ClosedFromEdition1 : Type 0
 ClosedFromEdition1 = (b : List ℕ) (e : ℕ) (f : Facts) → readCard b e ≡ Shown f → getD b 1 0 ≡ 1 → f .access ≡ closed
 
--- a rewrite never opens: what any edition shows of its result is closed, or was shown at edition 2 before
-abbrev pub ClosedOrShownAt2 : Type 0
-ClosedOrShownAt2 =
+-- a rewrite never opens: what any edition shows of its result is closed, or was shown before at the rewrite's own edition, which is 2 or 3
+abbrev pub ClosedOrShownFrom2 : Type 0
+ClosedOrShownFrom2 =
     (b : List ℕ) (e e′ : ℕ) (g : Facts) (out : List ℕ) → rewriteAnswer b e (length out) ≡ Done
-    → readCard (rewriteOutput b e out) e′ ≡ Shown g → (g .access ≡ closed) ⊎ (readCard b 2 ≡ Shown g)
+    → readCard (rewriteOutput b e out) e′ ≡ Shown g → (g .access ≡ closed) ⊎ (((e ≡ 2) ⊎ (e ≡ 3)) × (readCard b e ≡ Shown g))

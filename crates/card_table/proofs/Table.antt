@@ -22,8 +22,9 @@ least-with f access = refl
 -- which is never 0
 pub least-some : (f : Facts) → eqb (leastEdition f) 0 ≡ false
 unfolding leastEdition
-least-some f = go (eqb (f .layout .depth) 12)
+least-some f = go (eqb (f .layout .range) 3) (eqb (f .layout .depth) 12)
   where
-    go : (t : Bool) → eqb (cond t 2 1) 0 ≡ false
-    go true = refl
-    go false = refl
+    go : (t u : Bool) → eqb (cond t 3 (cond u 2 1)) 0 ≡ false
+    go true u = refl
+    go false true = refl
+    go false false = refl

@@ -1,12 +1,14 @@
--- Document 01, "Card": its editions. Assumes nothing.
+-- Document 01, "Card", with request A1's edition 3: the card's editions. Assumes nothing.
 use Prim.Native.Nat.{ℕ}
 use mathlib.Core.Bool.{Bool, cond, _&&_}
 use lib.Dec.{eqb, leb}
+use Rattle.layout.specs.declared.range.Range.the-variants.{LegacyFull}
+use Rattle.layout.specs.Layout.{rangeNumber}
 use Rattle.card_table.specs.declared.facts.Facts.{Facts}
 
 -- the newest edition
 abbrev pub newest : ℕ
-newest = 2
+newest = 3
 
 -- the editions there are: 1 to the newest
 abbrev pub editionKnown : ℕ → Bool
@@ -16,6 +18,9 @@ editionKnown e = leb 1 e && leb e newest
 abbrev pub hasAccess : ℕ → Bool
 hasAccess e = leb 2 e
 
--- byte 0: the least edition that can read a card of these facts, 2 if n = 12, else 1
+-- byte 0: the least edition that can read a card of these facts, a line for each edition that something in them needs, the latest first. A1: "Range 3 needs card edition 3, which is otherwise edition 2." Document 01: 2 if n = 12, else 1
 unfoldable pub leastEdition : Facts → ℕ
-leastEdition f = cond (eqb (f .layout .depth) 12) 2 1
+leastEdition f =
+    cond (eqb (f .layout .range) (rangeNumber LegacyFull)) 3
+    (cond (eqb (f .layout .depth) 12) 2
+    1)

@@ -14,7 +14,7 @@ use Rattle.card_table.specs.Edition.{editionKnown, hasAccess, leastEdition}
 use Rattle.card_table.specs.Facts.{closed, factsValid}
 use Rattle.card_table.specs.Table.{cardSize, cardBytes}
 
--- the edition has no place for the layout or the access (in this paper: edition 1, and 12 bits or access other than closed)
+-- the edition lacks the layout (edition 1: range 3 or 12 bits; edition 2: range 3) or the access (edition 1: any but closed)
 unfoldable pub unwritable : ℕ → Facts → Bool
 unwritable e f = ltb e (leastEdition f) || not (hasAccess e) && not (eqb (f .access) closed)
 

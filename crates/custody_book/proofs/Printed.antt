@@ -1,10 +1,13 @@
--- The claims of specs/Printed.antt: an edition that there is, is 1 or 2. Assumes nothing.
+-- The claims of specs/Printed.antt. Assumes nothing.
 use mathlib.Core.Path.{_≡_, refl, sym, ap, ap₂, _∙_}
-use mathlib.Core.Bool.{Bool, true, false, cond, _&&_, _||_, false≢true}
-use mathlib.Core.List.{List}
+use mathlib.Core.Bool.{Bool, true, false, not, cond, _&&_, _||_, false≢true}
+use mathlib.Core.List.{List, [], _∷_}
 use Prim.Native.Nat.{ℕ}
+use borrow.Author.Tests.{not-true}
 use lib.Dec.{eqb, ltb}
 use lib.ListN.{length}
+use Rattle.lists.specs.Lists.{every}
+use Rattle.lists.proofs.Tests.{and-left, and-right, and3}
 use Rattle.card_table.specs.declared.facts.Facts.{Facts}
 use Rattle.card_table.specs.Edition.{editionKnown, hasAccess, leastEdition}
 use Rattle.card_table.specs.Facts.{closed}
@@ -12,71 +15,121 @@ use Rattle.card_table.specs.Table.{cardSize}
 use Rattle.card_reader.specs.declared.CardReading.the-variants.{Shown}
 use Rattle.refusal.specs.declared.Written.{Written}
 use Rattle.card_laws.proofs.Printed.{row-7, by-edition}
-use Rattle.custody_book.specs.History.{Rewrite, Trace}
-use Rattle.custody_book.specs.Meaning.{readingOf, refused, notShown, RewriteRight, EachRight, EachRight.none, EachRight.each, acceptedAt}
-use Rattle.custody_book.specs.Printed.{atTwo, oneAboutTwelve, RewritePrinted, EachPrinted, EachPrinted.none, EachPrinted.each, MeansAsPrinted, AccessPrinted}
+use Rattle.custody_book.specs.History.{Rewrite, Asked, Trace, History}
+use Rattle.custody_book.specs.Meaning.{readingOf, refused, notShown, EachRight, EachRight.none, EachRight.each, acceptedAt}
+use Rattle.custody_book.specs.Printed.{Wording, RewriteWorded, EachWorded, EachWorded.none as no-more, EachWorded.each as one-more, Worded, needsHigher, twoOrThree, words, MeansAsPrinted, oneOrTwo, firstWords, PrintedAsFirst, AccessPrinted}
 
--- ---- the tests of a known edition
+-- ---- one wording for another, where they say the same of every edition that is asked
 
-under : (f : Facts) (e : ℕ) → editionKnown e ≡ true → ltb e (leastEdition f) ≡ oneAboutTwelve e f
-unfolding leastEdition
-under f = by-edition (λ e. ltb e (leastEdition f) ≡ oneAboutTwelve e f) (at-1 (eqb (f .layout .depth) 12)) (at-2 (eqb (f .layout .depth) 12))
-  where
-    at-1 : (t : Bool) → ltb 1 (cond t 2 1) ≡ t
-    at-1 true = refl
-    at-1 false = refl
+-- p holds of the editions that are asked
+record Same (p : ℕ → Bool) (f : Facts) (w w′ : Wording) : Type 0 where
+  known : (e : ℕ) → p e ≡ true → w .known e ≡ w′ .known e
+  lacking : (e : ℕ) → p e ≡ true → w .known e ≡ true → w .lacking e f ≡ w′ .lacking e f
+  keeping : (e : ℕ) → p e ≡ true → w .known e ≡ true → w .keeping e ≡ w′ .keeping e
 
-    at-2 : (t : Bool) → ltb 2 (cond t 2 1) ≡ false
-    at-2 true = refl
-    at-2 false = refl
+module _ (p : ℕ → Bool) (w w′ : Wording) (f : Facts) (same : Same p f w w′) where
+  rewrite-reworded : (r : Rewrite) {answer : Written} → p (r .edition) ≡ true → RewriteWorded w f r answer → RewriteWorded w′ f r answer
+  rewrite-reworded r q x =
+      let k = same .known (r .edition) q in
+      record {
+        exactly = λ h n. x .exactly (k ∙ h) n ∙ same .lacking (r .edition) q (k ∙ h);
+        others = λ h. x .others (ap (λ (t : Bool). t && eqb (length (r .output)) cardSize) k ∙ h);
+      }
 
-two : (e : ℕ) → editionKnown e ≡ true → hasAccess e ≡ atTwo e
-two = by-edition (λ e. hasAccess e ≡ atTwo e) refl refl
+  each-reworded : {rs : List Rewrite} {s : Trace} → every (λ (r : Rewrite). p (r .edition)) rs ≡ true → EachWorded w f rs s → EachWorded w′ f rs s
+  unfolding every
+  each-reworded q no-more = no-more
+  each-reworded q (one-more {r = r} {rs = rs} x xs) =
+      let here = and-left (p (r .edition)) (every (λ (r : Rewrite). p (r .edition)) rs) q in
+      let there = and-right (p (r .edition)) (every (λ (r : Rewrite). p (r .edition)) rs) q in
+      one-more (rewrite-reworded r here x) (each-reworded there xs)
 
-pub access-printed : AccessPrinted
-access-printed e access = by-edition (λ e. cond (hasAccess e) access closed ≡ cond (eqb e 1) closed access) refl refl e
+  -- an accepted rewrite was at one of the editions
+  kept : (r : Rewrite) (answer : Written) → p (r .edition) ≡ true → RewriteWorded w f r answer → refused answer || w .keeping (r .edition) ≡ refused answer || w′ .keeping (r .edition)
+  kept r answer q x = go (refused answer) (w .known (r .edition)) refl refl
+    where
+      go : (t k : Bool) → refused answer ≡ t → w .known (r .edition) ≡ k → t || w .keeping (r .edition) ≡ t || w′ .keeping (r .edition)
+      go true k g h = refl
+      go false true g h = same .keeping (r .edition) q h
+      go false false g h = absurd (false≢true (sym g ∙ x .others (ap (λ (t : Bool). t && eqb (length (r .output)) cardSize) h)))
 
--- ---- the rewrites
+  all-kept : {rs : List Rewrite} {s : Trace} → every (λ (r : Rewrite). p (r .edition)) rs ≡ true → EachWorded w f rs s → acceptedAt (w .keeping) rs s ≡ acceptedAt (w′ .keeping) rs s
+  unfolding every
+  all-kept q no-more = refl
+  all-kept q (one-more {r = r} {rs = rs} {answer = answer} x xs) =
+      let here = and-left (p (r .edition)) (every (λ (r : Rewrite). p (r .edition)) rs) q in
+      let there = and-right (p (r .edition)) (every (λ (r : Rewrite). p (r .edition)) rs) q in
+      ap₂ _&&_ (kept r answer here x) (all-kept there xs)
 
-rewrite-printed : (f : Facts) (r : Rewrite) {before output card : List ℕ} {answer : Written} → RewriteRight f r before answer output card → RewritePrinted f r answer
-rewrite-printed f r w =
-    let k = row-7 (r .edition) in
+reworded : (p : ℕ → Bool) (w w′ : Wording) (a : Asked) (h : History) → Same p (a .facts) w w′ → p (a .last) ≡ true → every (λ (r : Rewrite). p (r .edition)) (a .rewrites) ≡ true
+    → Worded w a h → Worded w′ a h
+reworded p w w′ a h same q qs m =
+    let k = same .known (a .last) q in
     record {
-      exactly = λ h n. w .exactly (k ∙ h) n ∙ under f (r .edition) (k ∙ h);
-      others = λ h. w .others (ap (λ (t : Bool). t && eqb (length (r .output)) cardSize) k ∙ h);
+      rewrites = each-reworded p w w′ (a .facts) same qs (m .rewrites);
+      exactly = λ g. m .exactly (k ∙ g) ∙ same .lacking (a .last) q (k ∙ g);
+      others = λ g. m .others (k ∙ g);
+      access = λ g e. m .access g e ∙ (λ i. cond (all-kept p w w′ (a .facts) same qs (m .rewrites) i && same .keeping (a .last) q (read g e (w .known (a .last)) refl) i) (a .facts .access) closed);
     }
-
-each-printed : (f : Facts) {before : List ℕ} {rs : List Rewrite} {s : Trace} → EachRight f before rs s → EachPrinted f rs s
-each-printed f none = none
-each-printed f (each {r = r} w ws) = each (rewrite-printed f r w) (each-printed f ws)
-
--- an accepted rewrite was at an edition that there is, so at one that has access exactly if at 2
-at-two : (f : Facts) (r : Rewrite) {before output card : List ℕ} (answer : Written) → RewriteRight f r before answer output card → refused answer || hasAccess (r .edition) ≡ refused answer || atTwo (r .edition)
-at-two f r answer w = go (refused answer) (editionKnown (r .edition)) refl refl
   where
-    go : (t k : Bool) → refused answer ≡ t → editionKnown (r .edition) ≡ k → t || hasAccess (r .edition) ≡ t || atTwo (r .edition)
-    go true k p q = refl
-    go false true p q = two (r .edition) q
-    go false false p q = absurd (false≢true (sym p ∙ w .others (ap (λ (t : Bool). t && eqb (length (r .output)) cardSize) q)))
+    -- what is shown was read at one of the editions
+    read : (g : Facts) → readingOf (h .trace) ≡ Shown g → (t : Bool) → w .known (a .last) ≡ t → w .known (a .last) ≡ true
+    read g e true r = r
+    read g e false r = absurd (false≢true (sym (ap notShown e) ∙ m .others r))
 
-all-at-two : (f : Facts) {before : List ℕ} {rs : List Rewrite} {s : Trace} → EachRight f before rs s → acceptedAt hasAccess rs s ≡ acceptedAt atTwo rs s
-all-at-two f none = refl
-all-at-two f (each {r = r} {answer = answer} w ws) = ap₂ _&&_ (at-two f r answer w) (all-at-two f ws)
+-- ---- the definitions, as a wording (`leastEdition` is the edition needed)
 
--- ---- the whole
+abbrev defined : Wording
+defined = record { known = editionKnown; lacking = needsHigher; keeping = hasAccess }
+
+each-defined : (f : Facts) {before : List ℕ} {rs : List Rewrite} {s : Trace} → EachRight f before rs s → EachWorded defined f rs s
+unfolding leastEdition
+each-defined f none = no-more
+each-defined f (each {r = r} x xs) = one-more (record { exactly = x .exactly; others = x .others }) (each-defined f xs)
+
+all : (rs : List Rewrite) → every (λ (r : Rewrite). true) rs ≡ true
+unfolding every
+all [] = refl
+all (r ∷ rs) = all rs
 
 pub means-as-printed : MeansAsPrinted
+unfolding leastEdition
 means-as-printed a h m =
-    let k = row-7 (a .last) in
     let r = m .reading in
-    record {
-      rewrites = each-printed (a .facts) (m .rewrites);
-      exactly = λ p. r .exactly (k ∙ p) ∙ under (a .facts) (a .last) (k ∙ p);
-      others = λ p. r .others (k ∙ p);
-      access = λ g p. r .access g p ∙ (λ i. cond (all-at-two (a .facts) (m .rewrites) i && two (a .last) (known g p (editionKnown (a .last)) refl) i) (a .facts .access) closed);
-    }
-  where
-    -- what is shown was read at an edition that there is
-    known : (g : Facts) → readingOf (h .trace) ≡ Shown g → (t : Bool) → editionKnown (a .last) ≡ t → editionKnown (a .last) ≡ true
-    known g p true q = q
-    known g p false q = absurd (false≢true (sym (ap notShown p) ∙ m .reading .others q))
+    reworded (λ e. true) defined words a h
+    (record {
+      known = λ e q. row-7 e;
+      lacking = λ e q k. refl;
+      keeping = λ e q k. by-edition (λ e. hasAccess e ≡ twoOrThree e) refl refl refl e k;
+    })
+    refl (all (a .rewrites))
+    (record { rewrites = each-defined (a .facts) (m .rewrites); exactly = r .exactly; others = r .others; access = r .access })
+
+-- ---- the first words
+
+or-not : (t u : Bool) → not u ≡ true → t || u ≡ t
+or-not true u h = refl
+or-not false u h = not-true u h
+
+-- without range 3 (r), and at 1 or 2, a higher edition is needed where 1 is asked about 12 bits (d)
+higher : (r d : Bool) (e : ℕ) → not r ≡ true → editionKnown e ≡ true → not (eqb e 3) ≡ true → ltb e (cond r 3 (cond d 2 1)) ≡ eqb e 1 && d
+higher true d e n k = absurd (false≢true n)
+higher false true e n k = by-edition (λ e. not (eqb e 3) ≡ true → ltb e 2 ≡ eqb e 1 && true) (λ q. refl) (λ q. refl) (λ q. absurd (false≢true q)) e k
+higher false false e n k = by-edition (λ e. not (eqb e 3) ≡ true → ltb e 1 ≡ eqb e 1 && false) (λ q. refl) (λ q. refl) (λ q. absurd (false≢true q)) e k
+
+pub printed-as-first : PrintedAsFirst
+printed-as-first a h t m =
+    let f = a .facts in
+    let early = and3 _ _ _ t in
+    reworded (λ e. not (eqb e 3)) words firstWords a h
+    (record {
+      known = λ e q. or-not (oneOrTwo e) (eqb e 3) q;
+      lacking = λ e q k. higher (eqb (f .layout .range) 3) (eqb (f .layout .depth) 12) e (early .0) (row-7 e ∙ k) q;
+      keeping = λ e q k. or-not (eqb e 2) (eqb e 3) q;
+    })
+    (early .1) (early .2) m
+
+-- ---- the book
+
+pub access-printed : AccessPrinted
+access-printed e access = by-edition (λ e. cond (hasAccess e) access closed ≡ cond (eqb e 1) closed access) refl refl refl e

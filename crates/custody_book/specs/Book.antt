@@ -42,7 +42,7 @@ bookAnswer f r =
     (cond (not (eqb (length (r .output)) cardSize)) (Refused wrongLineOrOutput)
     Done))
 
--- the access that an edition leaves: as it is where the edition has access (at 2), and else closed (at 1)
+-- the access that an edition leaves: as it is where the edition has access (at 2 or 3), and else closed (at 1)
 abbrev pub accessAt : ℕ → ℕ → ℕ
 accessAt e access = cond (hasAccess e) access closed
 

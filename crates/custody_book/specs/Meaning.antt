@@ -1,4 +1,4 @@
--- Demand 3, sentence by sentence, of what is to be seen of one card, over all editions that there are. specs/Printed.antt has the sentences that name editions as the customer words them, of 1 and 2. Assumes nothing.
+-- Demand 3, sentence by sentence, of what is to be seen of one card, over all editions that there are. specs/Printed.antt has the sentences that name editions with the editions' numbers. Assumes nothing.
 use Prim.Native.Nat.{ℕ, _*_, _%_, _<_}
 use mathlib.Core.Bool.{Bool, true, false, not, cond, _&&_, _||_}
 use mathlib.Core.Path.{_≡_}

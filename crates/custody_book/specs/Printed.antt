@@ -1,11 +1,12 @@
--- Those sentences of demand 3 that name editions, in the customer's words, which are of editions 1 and 2; specs/Meaning.antt has all of it over all editions that there are. proofs/Printed.antt proves each claim. Assumes nothing.
+-- Those sentences of demand 3 that name editions, with the editions' numbers: as they read since request A1, over editions 1 to 3, and as the customer first worded them, of editions 1 and 2. specs/Meaning.antt has all of the demand over all editions that there are. proofs/Printed.antt proves each claim. Assumes nothing.
 use Prim.Native.Nat.{ℕ}
-use mathlib.Core.Bool.{Bool, true, false, cond, _&&_, _||_}
+use mathlib.Core.Bool.{Bool, true, false, not, cond, _&&_, _||_}
 use mathlib.Core.Path.{_≡_}
 use mathlib.Core.List.{List, [], _∷_}
-use lib.Dec.{eqb}
+use lib.Dec.{eqb, ltb}
 use lib.Ieee.{Float}
 use lib.ListN.{length}
+use Rattle.lists.specs.Lists.{every}
 use Rattle.line.specs.declared.LineAnswer.{LineAnswer}
 use Rattle.card_table.specs.declared.facts.Facts.{Facts}
 use Rattle.card_table.specs.Edition.{editionKnown}
@@ -18,41 +19,89 @@ use Rattle.custody_book.specs.History.{Rewrite, Asked, Trace, Trace.ende
 use Rattle.custody_book.specs.Book.{accessAt}
 use Rattle.custody_book.specs.Meaning.{readingOf, refused, notShown, acceptedAt, Meaning}
 
+-- ---- the sentences, which are the same both times but for the editions in them
+
+pub record Wording : Type 0 where
+  -- an edition that there is
+  pub known : ℕ → Bool
+  -- one that lacks the layout of the facts
+  pub lacking : ℕ → Facts → Bool
+  -- one that keeps the access
+  pub keeping : ℕ → Bool
+
+pub record RewriteWorded (w : Wording) (f : Facts) (r : Rewrite) (answer : Written) : Type 0 where
+  -- a rewrite at one of the editions, into an output as long as a card, is refused exactly when the edition lacks the layout
+  pub exactly : w .known (r .edition) ≡ true → length (r .output) ≡ cardSize → refused answer ≡ w .lacking (r .edition) f
+  -- any other edition or output is refused
+  pub others : w .known (r .edition) && eqb (length (r .output)) cardSize ≡ false → refused answer ≡ true
+
+-- every rewrite of the list
+pub data EachWorded (w : Wording) (f : Facts) : (rewrites : List Rewrite) → Trace → Type 0 where
+  none : {reading : CardReading} {decoding : LineAnswer} {values : List Float} → EachWorded w f [] (ended reading decoding values)
+  each : {r : Rewrite} {rs : List Rewrite} {answer : Written} {output card : List ℕ} {s : Trace}
+      → RewriteWorded w f r answer → EachWorded w f rs s → EachWorded w f (r ∷ rs) (rewritten answer output card s)
+
+pub record Worded (w : Wording) (a : Asked) (h : History) : Type 0 where
+  pub rewrites : EachWorded w (a .facts) (a .rewrites) (h .trace)
+  -- the last reading at one of the editions is refused exactly when the edition lacks the layout
+  pub exactly : w .known (a .last) ≡ true → notShown (readingOf (h .trace)) ≡ w .lacking (a .last) (a .facts)
+  -- any other edition is refused
+  pub others : w .known (a .last) ≡ false → notShown (readingOf (h .trace)) ≡ true
+  -- the access shown is the one first given if every accepted rewrite and the last reading were at an edition that keeps it, and closed if not
+  pub access : (g : Facts) → readingOf (h .trace) ≡ Shown g → g .access ≡ cond (acceptedAt (w .keeping) (a .rewrites) (h .trace) && w .keeping (a .last)) (a .facts .access) closed
+
+-- ---- since A1: "refused exactly where the layout needs a higher edition, and access survives where every accepted rewrite and the last reading were at 2 or 3"
+
+abbrev pub oneToThree : ℕ → Bool
+oneToThree e = eqb e 1 || eqb e 2 || eqb e 3
+
+-- the edition that the layout needs: range 3 needs 3, else 12 bits need 2, else it is 1
+abbrev pub needed : Facts → ℕ
+needed f = cond (eqb (f .layout .range) 3) 3 (cond (eqb (f .layout .depth) 12) 2 1)
+
+abbrev pub needsHigher : ℕ → Facts → Bool
+needsHigher e f = ltb e (needed f)
+
+abbrev pub twoOrThree : ℕ → Bool
+twoOrThree e = eqb e 2 || eqb e 3
+
+abbrev pub words : Wording
+words = record { known = oneToThree; lacking = needsHigher; keeping = twoOrThree }
+
+abbrev pub Printed : Asked → History → Type 0
+Printed a h = Worded words a h
+
+-- whatever has demand 3's meaning is as printed
+abbrev pub MeansAsPrinted : Type 0
+MeansAsPrinted = (a : Asked) (h : History) → Meaning a h → Printed a h
+
+-- ---- at first: "at edition 1 or 2 refuses exactly when edition 1 is asked about 12-bit pictures", and the access survives "if every accepted rewrite and the last reading were at edition 2"
+
 abbrev pub oneOrTwo : ℕ → Bool
 oneOrTwo e = eqb e 1 || eqb e 2
-
-abbrev pub atTwo : ℕ → Bool
-atTwo e = eqb e 2
 
 -- edition 1 is asked about 12-bit pictures
 abbrev pub oneAboutTwelve : ℕ → Facts → Bool
 oneAboutTwelve e f = eqb e 1 && eqb (f .layout .depth) 12
 
-pub record RewritePrinted (f : Facts) (r : Rewrite) (answer : Written) : Type 0 where
-  -- a rewrite at edition 1 or 2, into an output as long as a card, is refused exactly when edition 1 is asked about 12-bit pictures
-  pub exactly : oneOrTwo (r .edition) ≡ true → length (r .output) ≡ cardSize → refused answer ≡ oneAboutTwelve (r .edition) f
-  -- any other edition or output is refused
-  pub others : oneOrTwo (r .edition) && eqb (length (r .output)) cardSize ≡ false → refused answer ≡ true
+abbrev pub atTwo : ℕ → Bool
+atTwo e = eqb e 2
 
--- every rewrite of the list
-pub data EachPrinted (f : Facts) : (rewrites : List Rewrite) → Trace → Type 0 where
-  none : {reading : CardReading} {decoding : LineAnswer} {values : List Float} → EachPrinted f [] (ended reading decoding values)
-  each : {r : Rewrite} {rs : List Rewrite} {answer : Written} {output card : List ℕ} {s : Trace}
-      → RewritePrinted f r answer → EachPrinted f rs s → EachPrinted f (r ∷ rs) (rewritten answer output card s)
+abbrev pub firstWords : Wording
+firstWords = record { known = oneOrTwo; lacking = oneAboutTwelve; keeping = atTwo }
 
-pub record Printed (a : Asked) (h : History) : Type 0 where
-  pub rewrites : EachPrinted (a .facts) (a .rewrites) (h .trace)
-  -- the last reading at edition 1 or 2 is refused exactly when edition 1 is asked about 12-bit pictures
-  pub exactly : oneOrTwo (a .last) ≡ true → notShown (readingOf (h .trace)) ≡ oneAboutTwelve (a .last) (a .facts)
-  -- any other edition is refused
-  pub others : oneOrTwo (a .last) ≡ false → notShown (readingOf (h .trace)) ≡ true
-  -- the access shown is the one first given if every accepted rewrite and the last reading were at edition 2, and closed if not
-  pub access : (g : Facts) → readingOf (h .trace) ≡ Shown g → g .access ≡ cond (acceptedAt atTwo (a .rewrites) (h .trace) && atTwo (a .last)) (a .facts .access) closed
+abbrev pub FirstPrinted : Asked → History → Type 0
+FirstPrinted a h = Worded firstWords a h
 
--- whatever has that meaning is as printed
-abbrev pub MeansAsPrinted : Type 0
-MeansAsPrinted = (a : Asked) (h : History) → Meaning a h → Printed a h
+-- a history with nothing of A1 in it: neither range 3 nor, in a rewrite or the last reading, edition 3 (the first card may be written at any)
+abbrev pub withoutThree : Asked → Bool
+withoutThree a = not (eqb (a .facts .layout .range) 3) && not (eqb (a .last) 3) && every (λ (r : Rewrite). not (eqb (r .edition) 3)) (a .rewrites)
 
--- of the book document 01 prints: at 1 the access becomes closed, at 2 it stays
+-- whatever is as printed now is, there, as first printed
+abbrev pub PrintedAsFirst : Type 0
+PrintedAsFirst = (a : Asked) (h : History) → withoutThree a ≡ true → Printed a h → FirstPrinted a h
+
+-- ---- the book: at 1 the access becomes closed; at 2, and since A1 at 3, it stays
+
 abbrev pub AccessPrinted : Type 0
 AccessPrinted = (e access : ℕ) → editionKnown e ≡ true → accessAt e access ≡ cond (eqb e 1) closed access

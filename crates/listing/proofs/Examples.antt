@@ -9,7 +9,7 @@ use Rattle.card_table.specs.Facts.{factsValid}
 use Rattle.card_table.specs.Access.{accessOf, accessUnknown}
 use Rattle.card_reader.specs.Reading.{layoutIn, factsIn, frontRight, endWrong, readCard}
 use Rattle.text_writer.specs.Decimal.{digits, decimal}
-use Rattle.listing.specs.Words.{closedWord, accessWord}
+use Rattle.listing.specs.Words.{closedWord, openWord, accessWord}
 use Rattle.listing.specs.List.{itemText, sizeText, numberLine, cardLine, firstLine, cardLines, listText}
 
 -- item 7, open, 720 by 576: Y'CbCr, BT.709, narrow, 10 bits in four bytes, written at 2
@@ -33,16 +33,17 @@ emptyList = 99 ∷ 97 ∷ 114 ∷ 100 ∷ 115 ∷ 32 ∷ 48 ∷ 10 ∷ []
 abbrev refusedList : List ℕ
 refusedList = 115 ∷ 116 ∷ 97 ∷ 99 ∷ 107 ∷ 32 ∷ 114 ∷ 101 ∷ 102 ∷ 117 ∷ 115 ∷ 101 ∷ 100 ∷ 32 ∷ 49 ∷ 10 ∷ []
 
--- `7 closed 720x576`
-abbrev closedLine : List ℕ
-closedLine = 55 ∷ 32 ∷ (closedWord ++ (32 ∷ 55 ∷ 50 ∷ 48 ∷ 120 ∷ 53 ∷ 55 ∷ 54 ∷ 10 ∷ []))
+-- `7 closed 720x576`, or with another word
+abbrev lineWith : List ℕ → List ℕ
+lineWith word = 55 ∷ 32 ∷ (word ++ (32 ∷ 55 ∷ 50 ∷ 48 ∷ 120 ∷ 53 ∷ 55 ∷ 54 ∷ 10 ∷ []))
 
--- the paper's two cards; no bytes; a byte too many; an access that nobody knows, written at 3; the largest number, and ten
+-- the paper's two cards; no bytes; a byte too many; an access that nobody knows, written at 4; range 3, which only edition 3 reads; the largest number, and ten
 pub examples : (listText (seven ++ replicate 32 0) ≡ paperList)
     × (listText [] ≡ emptyList)
     × (listText (0 ∷ seven) ≡ refusedList)
-    × (cardLine (set (set seven 1 3) 24 9) ≡ closedLine)
+    × (cardLine (set (set seven 1 4) 24 9) ≡ lineWith closedWord)
+    × (cardLine (set (set (set seven 0 3) 1 3) 4 3) ≡ lineWith openWord)
     × (decimal 18446744073709551615 ≡ 49 ∷ 56 ∷ 52 ∷ 52 ∷ 54 ∷ 55 ∷ 52 ∷ 52 ∷ 48 ∷ 55 ∷ 51 ∷ 55 ∷ 48 ∷ 57 ∷ 53 ∷ 53 ∷ 49 ∷ 54 ∷ 49 ∷ 53 ∷ [])
     × (decimal 10 ≡ 49 ∷ 48 ∷ [])
 unfolding listText firstLine cardLines cardLine itemText sizeText numberLine accessWord decimal digits readCard leastEdition factsValid validLayout accessOf layoutIn factsIn frontRight accessUnknown endWrong
-examples = (refl, refl, refl, refl, refl, refl)
+examples = (refl, refl, refl, refl, refl, refl, refl)

@@ -11,7 +11,7 @@ use Rattle.lists.proofs.Tests.{and-left, and-right, and3, pass, stop}
 use Rattle.layout.specs.Layout.{validLayout}
 use Rattle.card_table.specs.declared.facts.Facts.{Facts}
 use Rattle.card_table.specs.Facts.{largestSide, sideKnown, accessKnown, factsValid}
-use Rattle.card_table.specs.Edition.{editionKnown, leastEdition}
+use Rattle.card_table.specs.Edition.{newest, editionKnown, leastEdition}
 use Rattle.card_table.specs.Table.{cardSize}
 use Rattle.card_reader.specs.declared.CardReading.{CardReading}
 use Rattle.card_reader.specs.declared.CardReading.the-variants.{Shown, Refused}
@@ -71,11 +71,11 @@ front-valid b f h =
 
 -- ---- a card's line
 
-pub shown-line : (b : List ℕ) (f : Facts) → readCard b 2 ≡ Shown f → readingLine (Shown f) ≡ cardLine b
+pub shown-line : (b : List ℕ) (f : Facts) → readCard b newest ≡ Shown f → readingLine (Shown f) ≡ cardLine b
 unfolding cardLine
 shown-line b f h = ap readingLine (sym h)
 
-pub refused-line : (b : List ℕ) (n : ℕ) → readCard b 2 ≡ Refused n → numberLine cardRefused n ≡ cardLine b
+pub refused-line : (b : List ℕ) (n : ℕ) → readCard b newest ≡ Refused n → numberLine cardRefused n ≡ cardLine b
 unfolding cardLine
 refused-line b n h = ap readingLine (sym h)
 
@@ -95,16 +95,16 @@ refused-small b e n =
     (small (accessUnknown (writerOf b) (getD b 24 0) e) 10 n (lit< tt)
     (small (endWrong b e) 9 n (lit< tt) (λ h. let z : _≡_ {A = ℕ} 0 1 = cc in absurd (omega arith))))))))
 
-longest : (b : List ℕ) (r : CardReading) → readCard b 2 ≡ r → length (readingLine r) ≤ 41
+longest : (b : List ℕ) (r : CardReading) → readCard b newest ≡ r → length (readingLine r) ≤ 41
 longest b (Shown f) h =
-    let a = accepted b 2 f h in
-    facts-longest f (subst (λ (g : Facts). factsValid g ≡ true) (a .is) (front-valid b (factsIn b 2) (a .front)))
-longest b (Refused n) h = omega (arith, length-line cardRefused n, length-decimal 1 n (omega (arith, refused-small b 2 n h)))
+    let a = accepted b newest f h in
+    facts-longest f (subst (λ (g : Facts). factsValid g ≡ true) (a .is) (front-valid b (factsIn b newest) (a .front)))
+longest b (Refused n) h = omega (arith, length-line cardRefused n, length-decimal 1 n (omega (arith, refused-small b newest n h)))
 
 -- no bytes have a longer line
 pub card-longest : (b : List ℕ) → length (cardLine b) ≤ 41
 unfolding cardLine
-card-longest b = longest b (readCard b 2) refl
+card-longest b = longest b (readCard b newest) refl
 
 -- ---- the first line
 

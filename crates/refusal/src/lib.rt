@@ -24,7 +24,7 @@ pub const WRONG_SAMPLE: u8 = 5;
 // The lower and upper numbers of the samples state no one range.
 pub const NO_RANGE: u8 = 6;
 
-// The edition asked is not 1 or 2.
+// The edition asked is not 1 to 3.
 pub const UNKNOWN_EDITION: u8 = 7;
 
 // The card's byte 0 is above the edition asked.
@@ -33,10 +33,10 @@ pub const LATER_EDITION: u8 = 8;
 // A card field, layout, range, depth, channel or weights row is outside the paper.
 pub const OUTSIDE: u8 = 9;
 
-// The access is above 2 in a card written at 2 and read at 2.
+// The access is above 2 in a card written at 2 or later, and not later than it is read.
 pub const UNKNOWN_ACCESS: u8 = 10;
 
-// Edition 1 is asked to write 12 bits, or an access other than closed.
+// The edition that is asked to write lacks the layout or the access.
 pub const UNWRITABLE: u8 = 11;
 
 // A float is not a number.

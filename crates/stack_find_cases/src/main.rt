@@ -67,7 +67,9 @@ fn show_all(stack: &[u8]) {
     show(stack, 1, 305551);
     show(stack, 2, 412008);
     show(stack, 2, 0);
-    show(stack, 3, 203001);
+    show(stack, 3, 117);
+    show(stack, 2, 117);
+    show(stack, 4, 203001);
 }
 
 fn main() {
@@ -75,6 +77,6 @@ fn main() {
     let length = io::read_full(STDIN_FILENO, &mut buffer);
     show_all(&buffer[..length]);
     show(b"no stack", 2, 203001);
-    show(b"no stack", 3, 203001);
+    show(b"no stack", 4, 203001);
     show(b"", 2, 203001);
 }
