@@ -18,7 +18,7 @@ editionKnown e = leb 1 e && leb e newest
 abbrev pub hasAccess : ℕ → Bool
 hasAccess e = leb 2 e
 
--- byte 0: the least edition that can read a card of these facts, a line for each edition that something in them needs, the latest first. A1: "Range 3 needs card edition 3, which is otherwise edition 2." Document 01: 2 if n = 12, else 1
+-- byte 0: the least edition that can read a card of these facts, a line for each edition that something in them needs, the latest first. Range 3 needs 3, at any depth (A1); 12 bits need 2, and all else 1 (document 01)
 unfoldable pub leastEdition : Facts → ℕ
 leastEdition f =
     cond (eqb (f .layout .range) (rangeNumber LegacyFull)) 3

@@ -50,7 +50,7 @@ pub record Worded (w : Wording) (a : Asked) (h : History) : Type 0 where
   -- the access shown is the one first given if every accepted rewrite and the last reading were at an edition that keeps it, and closed if not
   pub access : (g : Facts) → readingOf (h .trace) ≡ Shown g → g .access ≡ cond (acceptedAt (w .keeping) (a .rewrites) (h .trace) && w .keeping (a .last)) (a .facts .access) closed
 
--- ---- since A1: "refused exactly where the layout needs a higher edition, and access survives where every accepted rewrite and the last reading were at 2 or 3"
+-- ---- since A1: an edition lacks the layout where that needs a higher one, and 2 and 3 keep the access
 
 abbrev pub oneToThree : ℕ → Bool
 oneToThree e = eqb e 1 || eqb e 2 || eqb e 3
@@ -75,7 +75,7 @@ Printed a h = Worded words a h
 abbrev pub MeansAsPrinted : Type 0
 MeansAsPrinted = (a : Asked) (h : History) → Meaning a h → Printed a h
 
--- ---- at first: "at edition 1 or 2 refuses exactly when edition 1 is asked about 12-bit pictures", and the access survives "if every accepted rewrite and the last reading were at edition 2"
+-- ---- at first: edition 1 lacks 12-bit pictures, and 2 keeps the access
 
 abbrev pub oneOrTwo : ℕ → Bool
 oneOrTwo e = eqb e 1 || eqb e 2
