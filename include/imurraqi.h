@@ -13,9 +13,14 @@
  *
  *   model      1 R'G'B', 2 Y'CbCr
  *   primaries  1 BT.709, 2 BT.601 EBU, 3 BT.601 SMPTE, 4 BT.2020
- *   range      1 narrow, 2 full
+ *   range      1 narrow, 2 full, 3 legacy full (the older full range, of
+ *              BT.2100-0 and JFIF)
  *   depth      8, 10 or 12 bits a channel
  *   bytes      3 to 8
+ *
+ * Cards have editions, 1 to 3. Edition 1 has narrow and full range at 8 and 10
+ * bits, and no access: all is closed. Edition 2 also has 12 bits and access, and
+ * edition 3 also has legacy full range, at every depth.
  *
  * Refusals:
  *
@@ -24,9 +29,10 @@
  *    2  wrong header of a descriptor    3  wrong model or colors in it
  *    4  wrong planes in it              5  wrong sample in it
  *    6  its samples state no one range
- *    7  unknown edition: not 1 or 2     8  a card for later editions only
+ *    7  unknown edition: not 1 to 3     8  a card for later editions only
  *    9  a number, field or layout that is none of these
- *   10  unknown access in a card       11  edition 1 can't write it
+ *   10  unknown access in a card, written at 2 or later and not later than the
+ *       edition asked                  11  the edition lacks the layout or access
  *   12  not-a-number
  *   13  a line not of whole points or of over 4,096, or an output not exactly
  *       as long as needed
@@ -57,7 +63,8 @@ int64_t imurraqi_descriptor_write(const uint8_t layout[8], uint8_t *out,
 int64_t imurraqi_dequantize(uint8_t model, uint8_t range, uint8_t depth,
                             uint8_t channel, uint16_t code, float *value);
 
-/* The code of a float, worked out from its exact value. Refused: 9, then 12. */
+/* The code of a float, worked out from its exact value. Legacy full range makes
+ * no code above 4092 at 12 bits. Refused: 9, then 12. */
 int64_t imurraqi_quantize(uint8_t model, uint8_t range, uint8_t depth,
                           uint8_t channel, float value);
 
@@ -94,8 +101,8 @@ int64_t imurraqi_pack_line(const uint8_t layout[8], const uint16_t *codes,
 
 /* Converts a line of codes of R', G', B', three a point, to Y', Cb, Cr by the
  * weights of the primaries, into an array of the same length. range_in is the
- * range of codes, range_out that of out: one range, or two. Answers the count of
- * points. Refused: 9, then 13, then 14. */
+ * range of codes, range_out that of out: any range on either side. Answers the
+ * count of points. Refused: 9, then 13, then 14. */
 int64_t imurraqi_rgb_to_ycbcr(uint8_t primaries, uint8_t depth,
                               uint8_t range_in, uint8_t range_out,
                               const uint16_t *codes, size_t len, uint16_t *out,
@@ -107,7 +114,7 @@ int64_t imurraqi_ycbcr_to_rgb(uint8_t primaries, uint8_t depth,
                               const uint16_t *codes, size_t len, uint16_t *out,
                               size_t out_len);
 
-/* What a card shows at an edition, 1 or 2. Answers 0. Refused: 1, 7, 9 where
+/* What a card shows at an edition, 1 to 3. Answers 0. Refused: 1, 7, 9 where
  * byte 0 is 0, 8, 9 for bytes 1 to 23 and a byte 0 that is not the layout's, 10,
  * 9 for bytes 24 to 31.
  * layout: the eight bytes of its layout. facts: width, height, item, access

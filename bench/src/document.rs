@@ -36,6 +36,7 @@ Written by `bench/run --write`, from one run; `bench/run` alone prints the same 
   plain Rust that does the same job with the same refusals, and how many times as long the library takes. Medians of {ROUNDS}
   rounds; both are measured one after the other in each round, and the ratio is the median of the rounds' ratios. Before
   that both are run on every input, refused ones too, and must give the same answers and outputs.
+- *setting*: a line is in narrow range where none is named; older full is range 3.
 - *input*: a row's inputs are smooth and random lines, of all depths for colors; shown is the one with the greatest
   ratio.
 - *aim*: the ratio that is not to be exceeded, where one is set. It is not enforced.

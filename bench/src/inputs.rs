@@ -47,7 +47,8 @@ pub fn smooth_colors(primaries: u8, depth: u8, range: u8) -> [Vec<u16>; 2] {
     let s = 1 << (depth - 8);
     let [lower, upper] = match range {
         1 => [16 * s, 235 * s],
-        _ => [0, (1 << depth) - 1],
+        2 => [0, (1 << depth) - 1],
+        _ => [0, 1 << depth],
     };
     let greatest = ((1 << depth) - 1) as f32;
     let rgb: Vec<u16> = (0..POINTS)

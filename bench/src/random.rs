@@ -54,7 +54,7 @@ impl Random {
         [
             1 + self.below(2),
             1 + self.below(4),
-            1 + self.below(2),
+            1 + self.below(3),
             depth,
             bytes,
             first,

@@ -1,5 +1,6 @@
 /* Finds an item in a stack of cards, shows its facts, writes and reads the
- * descriptor of its layout, and turns a line of its points into colors.
+ * descriptor of its layout, and turns a line of its points into colors. Then
+ * does the same with an early capture, and writes its card.
  * Usage: example STACK */
 #include <imurraqi.h>
 
@@ -9,8 +10,9 @@
 
 enum { CARD = 32, STACK = 1024 * CARD, DESCRIPTOR = 76 };
 enum { PRIMARIES = 1, RANGE = 2, DEPTH = 3, BYTES = 4 }; /* of a layout */
-enum { FULL = 2 };                                       /* a range */
-enum { POINTS = 4, CODES = 3 * POINTS };
+enum { FULL = 2, LEGACY_FULL = 3 };                      /* ranges */
+enum { COMMUNITY = 1 };                                  /* an access */
+enum { POINTS = 4, CODES = 3 * POINTS, EARLY_CODES = 6 };
 
 /* White, red, green and blue, as item 203002 has them: Y', Cb and Cr of 10 bits
  * each, in four bytes. */
@@ -18,6 +20,11 @@ static const uint8_t packed[4 * POINTS] = {
     0xac, 0x03, 0x08, 0x20, 0x46, 0xa5, 0x05, 0x3c,
     0x42, 0x5e, 0x93, 0x08, 0xa4, 0x00, 0x7f, 0x1b,
 };
+
+/* White and red of an early capture, in the older full range: a byte each of Y',
+ * Cb and Cr. */
+static const uint8_t early_layout[8] = {2, 2, LEGACY_FULL, 8, 3, 0, 8, 16};
+static const uint8_t early[EARLY_CODES] = {255, 128, 128, 77, 85, 255};
 
 /* The answer, if it is one. Below 0 it is minus the number of a refusal, and
  * nothing was written, so that there is nothing to go on with. */
@@ -43,6 +50,15 @@ static void show_item(const uint8_t *stack, size_t len, uint64_t item,
            access[facts[3]]);
 }
 
+static void show_points(const uint16_t *codes, const float *values,
+                        const uint16_t *colors, int count)
+{
+    for (int i = 0; i < count; i += 3)
+        printf("Y'CbCr %d %d %d is %.4f %.4f %.4f, R'G'B' %d %d %d\n",
+               codes[i], codes[i + 1], codes[i + 2], values[i], values[i + 1],
+               values[i + 2], colors[i], colors[i + 1], colors[i + 2]);
+}
+
 /* The line's codes, values and colors, by a descriptor. */
 static void show_line(const uint8_t *descriptor, size_t len)
 {
@@ -56,10 +72,36 @@ static void show_line(const uint8_t *descriptor, size_t len)
     good(imurraqi_decode_line(layout, packed, sizeof packed, values, CODES));
     printf("points of %d bits a channel in %d bytes\n", layout[DEPTH],
            layout[BYTES]);
-    for (int i = 0; i < CODES; i += 3)
-        printf("Y'CbCr %d %d %d is %.4f %.4f %.4f, R'G'B' %d %d %d\n",
-               codes[i], codes[i + 1], codes[i + 2], values[i], values[i + 1],
-               values[i + 2], colors[i], colors[i + 1], colors[i + 2]);
+    show_points(codes, values, colors, CODES);
+}
+
+/* An early capture in today's full range, and its card. Edition 3 has its range;
+ * a station that is still at edition 2 can't write or read such a card. */
+static void show_early(void)
+{
+    uint8_t card[CARD], layout[8];
+    uint16_t codes[EARLY_CODES], colors[EARLY_CODES];
+    float values[EARLY_CODES];
+    uint64_t facts[4];
+    good(imurraqi_unpack_line(early_layout, early, sizeof early, codes,
+                              EARLY_CODES));
+    good(imurraqi_decode_line(early_layout, early, sizeof early, values,
+                              EARLY_CODES));
+    good(imurraqi_ycbcr_to_rgb(early_layout[PRIMARIES], early_layout[DEPTH],
+                               LEGACY_FULL, FULL, codes, EARLY_CODES, colors,
+                               EARLY_CODES));
+    printf("an early capture\n");
+    show_points(codes, values, colors, EARLY_CODES);
+    printf("its card at edition 2: %d\n",
+           (int)imurraqi_card_write(2, early_layout, 720, 576, 12, COMMUNITY,
+                                    card, CARD));
+    good(imurraqi_card_write(3, early_layout, 720, 576, 12, COMMUNITY, card,
+                             CARD));
+    good(imurraqi_card_read(card, CARD, 3, layout, facts));
+    printf("its card at edition 3: for editions from %d, item %" PRIu64 "\n",
+           card[0], facts[2]);
+    printf("that card at edition 2: %d\n",
+           (int)imurraqi_card_read(card, CARD, 2, layout, facts));
 }
 
 int main(int argc, char **argv)
@@ -79,5 +121,6 @@ int main(int argc, char **argv)
     show_line(descriptor, sizeof descriptor);
     /* A refusal is an answer too. 15: no card of the stack has the item. */
     printf("item 7: %d\n", (int)imurraqi_stack_find(stack, len, 2, 7));
+    show_early();
     return 0;
 }

@@ -1,8 +1,10 @@
 //! Finds an item in a stack of cards, shows its facts, writes and reads the
-//! descriptor of its layout, and turns a line of its points into colors.
+//! descriptor of its layout, and turns a line of its points into colors. Then does
+//! the same with an early capture, and writes its card.
 //! Usage: example STACK
 
-use imurraqi::{access, range, Layout, Refusal, CARD_SIZE, DESCRIPTOR_SIZE};
+use imurraqi::{access, model, primaries, range};
+use imurraqi::{Facts, Layout, Refusal, CARD_SIZE, DESCRIPTOR_SIZE};
 use std::process::ExitCode;
 
 const POINTS: usize = 4;
@@ -14,6 +16,18 @@ const PACKED: [u8; 4 * POINTS] = [
     0xac, 0x03, 0x08, 0x20, 0x46, 0xa5, 0x05, 0x3c, //
     0x42, 0x5e, 0x93, 0x08, 0xa4, 0x00, 0x7f, 0x1b,
 ];
+
+/// White and red of an early capture, in the older full range: a byte each of Y', Cb
+/// and Cr.
+const EARLY: [u8; 6] = [255, 128, 128, 77, 85, 255];
+const EARLY_LAYOUT: Layout = Layout {
+    model: model::YCBCR,
+    primaries: primaries::BT601_EBU,
+    range: range::LEGACY_FULL,
+    depth: 8,
+    bytes: 3,
+    offsets: [0, 8, 16],
+};
 
 /// What edition 2 shows of an item. Its layout is returned.
 fn show_item(stack: &[u8], item: u64) -> Result<Layout, Refusal> {
@@ -30,6 +44,15 @@ fn show_item(stack: &[u8], item: u64) -> Result<Layout, Refusal> {
     Ok(facts.layout)
 }
 
+fn show_points(codes: &[u16], values: &[f32], colors: &[u16]) {
+    for i in (0..codes.len()).step_by(3) {
+        let [y, cb, cr] = [codes[i], codes[i + 1], codes[i + 2]];
+        let [v0, v1, v2] = [values[i], values[i + 1], values[i + 2]];
+        let [r, g, b] = [colors[i], colors[i + 1], colors[i + 2]];
+        println!("Y'CbCr {y} {cb} {cr} is {v0:.4} {v1:.4} {v2:.4}, R'G'B' {r} {g} {b}");
+    }
+}
+
 /// The line's codes, values and colors, by a descriptor.
 fn show_line(descriptor: &[u8]) -> Result<(), Refusal> {
     let (mut codes, mut colors, mut values) = ([0; CODES], [0; CODES], [0.0; CODES]);
@@ -39,11 +62,35 @@ fn show_line(descriptor: &[u8]) -> Result<(), Refusal> {
     imurraqi::decode_line(layout, &PACKED, &mut values)?;
     let (depth, bytes) = (layout.depth, layout.bytes);
     println!("points of {depth} bits a channel in {bytes} bytes");
-    for i in (0..CODES).step_by(3) {
-        let [y, cb, cr] = [codes[i], codes[i + 1], codes[i + 2]];
-        let [v0, v1, v2] = [values[i], values[i + 1], values[i + 2]];
-        let [r, g, b] = [colors[i], colors[i + 1], colors[i + 2]];
-        println!("Y'CbCr {y} {cb} {cr} is {v0:.4} {v1:.4} {v2:.4}, R'G'B' {r} {g} {b}");
+    show_points(&codes, &values, &colors);
+    Ok(())
+}
+
+/// An early capture in today's full range, and its card. Edition 3 has its range; a
+/// station that is still at edition 2 can't write or read such a card.
+fn show_early() -> Result<(), Refusal> {
+    let (mut codes, mut colors, mut values) = ([0; 6], [0; 6], [0.0; 6]);
+    imurraqi::unpack_line(EARLY_LAYOUT, &EARLY, &mut codes)?;
+    imurraqi::decode_line(EARLY_LAYOUT, &EARLY, &mut values)?;
+    imurraqi::ycbcr_to_rgb(EARLY_LAYOUT.conversion(range::FULL), &codes, &mut colors)?;
+    println!("an early capture");
+    show_points(&codes, &values, &colors);
+    let facts = Facts {
+        layout: EARLY_LAYOUT,
+        width: 720,
+        height: 576,
+        item: 12,
+        access: access::COMMUNITY,
+    };
+    let mut card = [0; CARD_SIZE];
+    if let Err(refusal @ Refusal::UNWRITABLE) = imurraqi::card_write(2, facts, &mut card) {
+        println!("its card at edition 2: -{}", refusal.number());
+    }
+    imurraqi::card_write(3, facts, &mut card)?;
+    let (least, item) = (card[0], imurraqi::card_read(&card, 3)?.item);
+    println!("its card at edition 3: for editions from {least}, item {item}");
+    if let Err(refusal @ Refusal::LATER_EDITION) = imurraqi::card_read(&card, 2) {
+        println!("that card at edition 2: -{}", refusal.number());
     }
     Ok(())
 }
@@ -57,7 +104,7 @@ fn show(stack: &[u8]) -> Result<(), Refusal> {
     if let Err(refusal @ Refusal::NO_ITEM) = imurraqi::stack_find(stack, 2, 7) {
         println!("item 7: -{}", refusal.number());
     }
-    Ok(())
+    show_early()
 }
 
 fn main() -> ExitCode {

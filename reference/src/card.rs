@@ -5,9 +5,12 @@ use crate::refusal::Refusal;
 
 pub const SIZE: usize = 32;
 
+/// The newest edition. Editions are known from 1 to it.
+pub const NEWEST: u8 = 3;
+
 const GREATEST_SIDE: u16 = 4096;
 
-/// The access numbers of edition 2 are those up to open.
+/// The access numbers, which editions from 2 on have, are those up to open.
 pub const CLOSED: u8 = 0;
 pub const COMMUNITY: u8 = 1;
 pub const OPEN: u8 = 2;
@@ -59,7 +62,8 @@ pub fn read(bytes: &[u8], edition: u8) -> Result<Facts, Refusal> {
 pub fn write(edition: u8, facts: Facts, out: &mut [u8]) -> Result<(), Refusal> {
     known(edition)?;
     let layout = facts.inside()?;
-    if edition < least_edition(layout) || edition == 1 && facts.access != CLOSED {
+    let lacks_access = !has_access(edition) && facts.access != CLOSED;
+    if edition < least_edition(layout) || lacks_access {
         return Err(Refusal::EditionLacks);
     }
     if out.len() != SIZE {
@@ -74,20 +78,26 @@ pub fn rewrite(card: &[u8], edition: u8, out: &mut [u8]) -> Result<(), Refusal> 
     write(edition, read(card, edition)?, out)
 }
 
-/// Refuses an edition that is not 1 or 2.
+/// Refuses an edition that is not 1 to 3.
 pub fn known(edition: u8) -> Result<(), Refusal> {
     match edition {
-        1 | 2 => Ok(()),
+        1..=NEWEST => Ok(()),
         _ => Err(Refusal::Edition),
     }
 }
 
-/// The least edition that can read a card of this layout.
+/// Whether an edition has access: all do but the first.
+pub fn has_access(edition: u8) -> bool {
+    edition >= 2
+}
+
+/// The least edition that can read a card of this layout: the highest that its
+/// range or its depth needs.
 pub(crate) fn least_edition(layout: Layout) -> u8 {
-    if layout.depth == 12 {
-        2
-    } else {
-        1
+    match (layout.range, layout.depth) {
+        (3, _) => 3,
+        (_, 12) => 2,
+        _ => 1,
     }
 }
 
@@ -95,16 +105,28 @@ pub(crate) fn least_edition(layout: Layout) -> u8 {
 /// read at another.
 fn access(bytes: &[u8], written: u8, edition: u8) -> Result<u8, Refusal> {
     let access = bytes[0];
-    match (written, edition) {
-        (1, _) if bytes != [0; 8] => Err(Refusal::Outside),
-        (1, _) | (_, 1) => Ok(CLOSED),
-        (2, _) if access > OPEN => Err(Refusal::Access),
-        (2, _) if bytes[1..] != [0; 7] => Err(Refusal::Outside),
-        (2, _) => Ok(access),
-        // Written later than it is read.
-        _ if access > OPEN => Ok(CLOSED),
-        _ => Ok(access),
+    if !has_access(written) {
+        // Silent about access, whoever reads it.
+        return match bytes {
+            [0, 0, 0, 0, 0, 0, 0, 0] => Ok(CLOSED),
+            _ => Err(Refusal::Outside),
+        };
     }
+    if !has_access(edition) {
+        return Ok(CLOSED);
+    }
+    if written > edition {
+        // Written later than it is read.
+        return Ok(if access > OPEN { CLOSED } else { access });
+    }
+    // The reader knows all that the writer knew, so the table holds.
+    if access > OPEN {
+        return Err(Refusal::Access);
+    }
+    if bytes[1..] != [0; 7] {
+        return Err(Refusal::Outside);
+    }
+    Ok(access)
 }
 
 fn bytes(edition: u8, facts: Facts, layout: Layout) -> [u8; SIZE] {
@@ -194,8 +216,33 @@ mod tests {
         let mut card = CARD;
         card[24] = 3;
         assert_eq!(read(&card, 2), Err(Refusal::Access));
-        // Written at 3, it is closed at 2.
+        assert_eq!(read(&card, 3), Err(Refusal::Access));
+        // Written at 3, it is closed at 2, and at 3 it is not known.
         card[1] = 3;
         assert_eq!(read(&card, 2).map(|facts| facts.access), Ok(CLOSED));
+        assert_eq!(read(&card, 3), Err(Refusal::Access));
+        // Written at 4, it is closed at 3 too, and more may follow.
+        card[1] = 4;
+        card[31] = 1;
+        assert_eq!(read(&card, 3).map(|facts| facts.access), Ok(CLOSED));
+    }
+
+    #[test]
+    fn the_older_full_range() {
+        let facts = Facts {
+            layout: [2, 2, 3, 8, 3, 0, 8, 16],
+            ..FACTS
+        };
+        let mut card = [0xff; SIZE];
+        for edition in [1, 2] {
+            assert_eq!(write(edition, facts, &mut card), Err(Refusal::EditionLacks));
+        }
+        assert_eq!(write(3, facts, &mut card), Ok(()));
+        assert_eq!([card[0], card[1], card[4]], [3, 3, 3]);
+        assert_eq!(read(&card, 2), Err(Refusal::TooNew));
+        assert_eq!(read(&card, 3), Ok(facts));
+        // A byte 0 of 2 is another layout's.
+        card[0] = 2;
+        assert_eq!(read(&card, 3), Err(Refusal::Outside));
     }
 }

@@ -138,6 +138,21 @@ mod tests {
     }
 
     #[test]
+    fn between_both_full_ranges() {
+        // Y' = 0.2126 and 256 Y' = 54.4256; Cb = -0.2126/1.8556 and 256 (Cb + 1/2)
+        // = 98.6695; Cr = 1/2, which is 256, clamped.
+        let mut made = [0; 3];
+        assert_eq!(rgb_to_ycbcr([1, 8, 2, 3], &[255, 0, 0], &mut made), Ok(1));
+        assert_eq!(made, [54, 99, 255]);
+        // R' = 54/256 + 1.5748 (255/256 - 1/2) and 255 R' = 253.0075.
+        assert_eq!(ycbcr_to_rgb([1, 8, 3, 2], &[54, 99, 255], &mut made), Ok(1));
+        assert_eq!(made, [253, 0, 0]);
+        // White of the older full range is above its codes.
+        assert_eq!(rgb_to_ycbcr([1, 12, 2, 3], &[4095; 3], &mut made), Ok(1));
+        assert_eq!(made, [4092, 2048, 2048]);
+    }
+
+    #[test]
     fn empty_line() {
         assert_eq!(rgb_to_ycbcr(FULL_8, &[], &mut []), Ok(0));
         assert_eq!(ycbcr_to_rgb(FULL_8, &[], &mut []), Ok(0));

@@ -42,9 +42,9 @@ pub fn read(bytes: &[u8]) -> Result<[u8; 8], Refusal> {
     }
     let samples = [0, 1, 2].map(|index| Sample::read(&bytes[SAMPLES + index * SAMPLE_SIZE..]));
     let (depth, offsets) = fields(samples, bytes_a_point).ok_or(Refusal::Sample)?;
-    // Only the range is left to be found. No numbers state both.
-    [1, 2]
-        .map(|range| Layout {
+    // Only the range is left to be found. No numbers state two of them.
+    Range::NUMBERED
+        .map(|(range, _)| Layout {
             model,
             primaries,
             range,
@@ -119,6 +119,7 @@ fn limits(layout: Layout, channel: u8) -> (u32, u32) {
         (Range::Narrow, Kind::Brightness) => (16 * s, 235 * s),
         (Range::Narrow, Kind::Difference) => (16 * s, 240 * s),
         (Range::Full, _) => (0, (1 << layout.depth) - 1),
+        (Range::LegacyFull, _) => (0, 1 << layout.depth),
     }
 }
 
@@ -165,4 +166,30 @@ impl Sample {
 /// The four bytes from a place.
 fn four(bytes: &[u8], place: usize) -> [u8; 4] {
     [0, 1, 2, 3].map(|next| bytes[place + next])
+}
+
+#[cfg(test)]
+mod tests {
+    use super::{read, write, SIZE};
+    use crate::refusal::Refusal;
+
+    /// Y'CbCr in the older full range, 10 bits.
+    const LEGACY: [u8; 8] = [2, 4, 3, 10, 4, 0, 10, 20];
+
+    #[test]
+    fn upper_states_the_older_full_range() {
+        let mut bytes = [0xff; SIZE];
+        assert_eq!(write(LEGACY, &mut bytes), Ok(()));
+        for sample in bytes[28..].chunks(16) {
+            assert_eq!(sample[8..], [0, 0, 0, 0, 0, 4, 0, 0]);
+        }
+        assert_eq!(read(&bytes), Ok(LEGACY));
+        // One less in all three samples is full range, in one or two is none.
+        bytes[40..42].copy_from_slice(&[0xff, 3]);
+        assert_eq!(read(&bytes), Err(Refusal::SampleRange));
+        bytes[56..58].copy_from_slice(&[0xff, 3]);
+        assert_eq!(read(&bytes), Err(Refusal::SampleRange));
+        bytes[72..74].copy_from_slice(&[0xff, 3]);
+        assert_eq!(read(&bytes), Ok([2, 4, 2, 10, 4, 0, 10, 20]));
+    }
 }

@@ -12,7 +12,8 @@ const HALF: i64 = ONE / 2;
 /// The code of the float with these bits, which must not be a not-a-number.
 ///
 /// The lines are the paper's, every term times 2^40. They fit in 64 bits: |v| is
-/// at most 4 and no line multiplies it by more than 4095, so all stay under 2^55.
+/// at most 4 and no line multiplies it, or it and a half, by more than 4096, so all
+/// stay under 2^55.
 pub fn quantize(scale: Scale, bits: u32) -> u16 {
     let v = same_code_value(bits);
     let n = scale.depth;
@@ -23,14 +24,20 @@ pub fn quantize(scale: Scale, bits: u32) -> u16 {
         (Range::Narrow, Kind::Difference) => floor(HALF + (224 * v + 128 * ONE) * s),
         (Range::Full, Kind::Brightness) => round(v * m),
         (Range::Full, Kind::Difference) => round(v * m + (ONE << (n - 1))),
+        (Range::LegacyFull, Kind::Brightness) => floor(HALF + (v << n)),
+        (Range::LegacyFull, Kind::Difference) => floor(HALF + ((v + HALF) << n)),
     };
-    number.clamp(0, m) as u16
+    let top = match (scale.range, n) {
+        (Range::LegacyFull, 12) => 4092,
+        _ => m,
+    };
+    number.clamp(0, top) as u16
 }
 
 /// v * 2^40, where v is the float's exact value if its magnitude is 2^-17 or
 /// above and below 4, and else a value that has the same code on every scale.
 ///
-/// Each line rounds a whole number w plus kv, where k is at most 4095.
+/// Each line rounds a whole number w plus kv, where k is at most 4096.
 ///
 /// - Fields up to 109 make |v| < 2^24 * 2^(109-150) = 2^-17, so |kv| < 1/2 and
 ///   w is the rounded number, as it is for zero.

@@ -36,9 +36,7 @@ impl Book {
         if room.len() != SIZE {
             return Err(Refusal::Length);
         }
-        if edition == 1 {
-            self.access = CLOSED;
-        }
+        self.access = self.access_at(edition);
         self.card = written(edition, self.shown(self.access))?;
         room.copy_from_slice(&self.card);
         Ok(())
@@ -47,7 +45,7 @@ impl Book {
     /// The last reading.
     pub fn read(&self, edition: u8) -> Result<Facts, Refusal> {
         self.asked(edition)?;
-        Ok(self.shown(if edition == 1 { CLOSED } else { self.access }))
+        Ok(self.shown(self.access_at(edition)))
     }
 
     /// A line decoded by the layout of an accepted last reading, which is the first.
@@ -62,6 +60,15 @@ impl Book {
             return Err(Refusal::TooNew);
         }
         Ok(())
+    }
+
+    /// The book's access, where the edition has any.
+    fn access_at(&self, edition: u8) -> u8 {
+        if card::has_access(edition) {
+            self.access
+        } else {
+            CLOSED
+        }
     }
 
     fn shown(&self, access: u8) -> Facts {
@@ -97,11 +104,14 @@ mod tests {
     fn open_until_edition_1_has_it() {
         let mut book = Book::new(2, FACTS).unwrap();
         let mut room = [0xff; SIZE];
-        assert_eq!(book.rewrite(3, &mut room), Err(Refusal::Edition));
+        assert_eq!(book.rewrite(4, &mut room), Err(Refusal::Edition));
         assert_eq!(book.rewrite(1, &mut room[1..]), Err(Refusal::Length));
         assert_eq!(room, [0xff; SIZE]);
         assert_eq!(book.rewrite(2, &mut room), Ok(()));
+        assert_eq!(book.rewrite(3, &mut room), Ok(()));
         assert_eq!(book.read(2), Ok(FACTS));
+        assert_eq!(book.read(3), Ok(FACTS));
+        assert_eq!(book.read(1).map(|facts| facts.access), Ok(CLOSED));
         assert_eq!(book.rewrite(1, &mut room), Ok(()));
         assert_eq!(book.rewrite(2, &mut room), Ok(()));
         assert_eq!(book.read(2).map(|facts| facts.access), Ok(CLOSED));
@@ -119,5 +129,19 @@ mod tests {
         assert_eq!(book.rewrite(1, &mut []), Err(Refusal::TooNew));
         assert_eq!(book.read(1), Err(Refusal::TooNew));
         assert_eq!(book.read(2), Ok(facts));
+    }
+
+    #[test]
+    fn the_older_full_range() {
+        let facts = Facts {
+            layout: [2, 2, 3, 10, 4, 0, 10, 20],
+            ..FACTS
+        };
+        assert_eq!(Book::new(2, facts).err(), Some(Refusal::EditionLacks));
+        let mut book = Book::new(3, facts).unwrap();
+        assert_eq!(book.rewrite(2, &mut []), Err(Refusal::TooNew));
+        assert_eq!(book.rewrite(3, &mut []), Err(Refusal::Length));
+        assert_eq!(book.read(1), Err(Refusal::TooNew));
+        assert_eq!(book.read(3), Ok(facts));
     }
 }

@@ -1,6 +1,6 @@
 //! Layouts: the paper's "Layout".
 
-use crate::quantization::Scale;
+use crate::quantization::{Range, Scale};
 use crate::refusal::Refusal;
 
 /// A layout inside the paper. Its fields are the paper's numbers.
@@ -30,7 +30,7 @@ impl Layout {
         };
         let inside = matches!(model, 1 | 2)
             && matches!(primaries, 1..=4)
-            && matches!(range, 1 | 2)
+            && Range::new(range).is_ok()
             && matches!(depth, 8 | 10 | 12)
             && matches!(bytes_a_point, 3..=8)
             && layout.fields_within_the_point()

@@ -1,4 +1,5 @@
-//! A second program for the codec, written from the scope paper alone.
+//! A second program for the codec, written from the scope paper and the requests
+//! after it alone.
 //!
 //! It shares nothing with the library that it is compared with, and it prefers
 //! plainness to speed: every number is an exact fraction, every float is its

@@ -28,7 +28,7 @@ usage: reference dequantize MODEL RANGE DEPTH CHANNEL CODE
        reference find EDITION ITEM BYTES
        reference list BYTES
 MODEL       1 RGB, 2 Y'CbCr
-RANGE       1 narrow, 2 full
+RANGE       1 narrow, 2 full, 3 the older full range
 DEPTH       8, 10 or 12
 CHANNEL     0, 1 or 2
 VALUE       decimal text, rounded to the nearest float, or a float's bits as 0x...
@@ -36,7 +36,7 @@ LAYOUT      model, primaries, range, depth, bytes a point, three bit offsets, as
             1,1,2,8,3,0,8,16
 CONVERSION  primaries, depth, range of the given codes, range of the codes made, as
             in 1,8,2,2
-EDITION     1 or 2
+EDITION     1, 2 or 3
 ACCESS      0 closed, 1 community, 2 open
 BYTES       hexadecimal digits, two a byte: packed points, or a descriptor, a card or
             a stack to read";

@@ -8,6 +8,8 @@ use crate::refusal::Refusal;
 pub enum Range {
     Narrow,
     Full,
+    /// The older full range, of BT.2100-0 and the first JFIF.
+    LegacyFull,
 }
 
 #[derive(Clone, Copy, Debug, PartialEq, Eq)]
@@ -18,7 +20,7 @@ pub enum Kind {
     Difference,
 }
 
-/// What decides how codes and values correspond. There are twelve.
+/// What decides how codes and values correspond. There are eighteen.
 #[derive(Clone, Copy, Debug, PartialEq, Eq)]
 pub struct Scale {
     pub range: Range,
@@ -52,12 +54,27 @@ pub fn quantize(model: u8, range: u8, depth: u8, channel: u8, bits: u32) -> Resu
 pub fn code(scale: Scale, bits: u32) -> Result<u16, Refusal> {
     match float::value(bits) {
         Value::NotANumber => Err(Refusal::NotANumber),
-        Value::PlusInfinity => Ok(scale.clamp(m(scale.depth))),
+        Value::PlusInfinity => Ok(scale.clamp(scale.top())),
         Value::MinusInfinity => Ok(scale.clamp(0)),
         Value::Finite {
             significand,
             exponent,
         } => Ok(scale.clamp(scale.number(same_code_fraction(significand, exponent)))),
+    }
+}
+
+impl Range {
+    /// Every range with its number.
+    pub const NUMBERED: [(u8, Range); 3] =
+        [(1, Range::Narrow), (2, Range::Full), (3, Range::LegacyFull)];
+
+    /// The range of a number.
+    pub fn new(number: u8) -> Result<Range, Refusal> {
+        Range::NUMBERED
+            .into_iter()
+            .find(|&(other, _)| other == number)
+            .map(|(_, range)| range)
+            .ok_or(Refusal::Outside)
     }
 }
 
@@ -68,11 +85,7 @@ impl Scale {
             (2, 1 | 2) => Kind::Difference,
             _ => return Err(Refusal::Outside),
         };
-        let range = match range {
-            1 => Range::Narrow,
-            2 => Range::Full,
-            _ => return Err(Refusal::Outside),
-        };
+        let range = Range::new(range)?;
         if !matches!(depth, 8 | 10 | 12) {
             return Err(Refusal::Outside);
         }
@@ -90,6 +103,8 @@ impl Scale {
             (Range::Narrow, Kind::Difference) => narrow_difference_value(c, self.depth),
             (Range::Full, Kind::Brightness) => full_brightness_value(c, self.depth),
             (Range::Full, Kind::Difference) => full_difference_value(c, self.depth),
+            (Range::LegacyFull, Kind::Brightness) => legacy_brightness_value(c, self.depth),
+            (Range::LegacyFull, Kind::Difference) => legacy_difference_value(c, self.depth),
         }
     }
 
@@ -100,12 +115,23 @@ impl Scale {
             (Range::Narrow, Kind::Difference) => narrow_difference_number(v, self.depth),
             (Range::Full, Kind::Brightness) => full_brightness_number(v, self.depth),
             (Range::Full, Kind::Difference) => full_difference_number(v, self.depth),
+            (Range::LegacyFull, Kind::Brightness) => legacy_brightness_number(v, self.depth),
+            (Range::LegacyFull, Kind::Difference) => legacy_difference_number(v, self.depth),
         }
     }
 
-    /// The code nearest to a whole number: 0 .. 2^n - 1, in both ranges.
+    /// The code nearest to a whole number: 0 up to the top.
     pub fn clamp(self, number: i128) -> u16 {
-        number.clamp(0, m(self.depth)) as u16
+        number.clamp(0, self.top()) as u16
+    }
+
+    /// The greatest code that is ever made: 2^n - 1, but in the older full range
+    /// 255, 1023 and, at 12 bits, 4092.
+    pub fn top(self) -> i128 {
+        match (self.range, self.depth) {
+            (Range::LegacyFull, 12) => 4092,
+            _ => m(self.depth),
+        }
     }
 }
 
@@ -131,6 +157,16 @@ fn full_difference_value(c: i128, n: u32) -> Fraction {
     Fraction::new(c - two_to(n - 1), m(n))
 }
 
+/// v = c * 2^-n
+fn legacy_brightness_value(c: i128, n: u32) -> Fraction {
+    Fraction::new(c, two_to(n))
+}
+
+/// v = c * 2^-n - 0.5
+fn legacy_difference_value(c: i128, n: u32) -> Fraction {
+    Fraction::new(c, two_to(n)) - HALF
+}
+
 // Back, as the paper prints them.
 
 /// floor(1/2 + (219v + 16)s)
@@ -151,6 +187,16 @@ fn full_brightness_number(v: Fraction, n: u32) -> i128 {
 /// Round(vm + 2^(n-1))
 fn full_difference_number(v: Fraction, n: u32) -> i128 {
     round(v * m(n) + two_to(n - 1))
+}
+
+/// floor(1/2 + v * 2^n)
+fn legacy_brightness_number(v: Fraction, n: u32) -> i128 {
+    (HALF + v * two_to(n)).floor()
+}
+
+/// floor(1/2 + (v + 0.5) * 2^n)
+fn legacy_difference_number(v: Fraction, n: u32) -> i128 {
+    (HALF + (v + HALF) * two_to(n)).floor()
 }
 
 /// Round(x) = sign(x) times floor(|x| + 1/2)
@@ -175,8 +221,8 @@ fn two_to(power: u32) -> i128 {
 /// A finite float's value as a fraction, or, where that would not fit in 128
 /// bits, another fraction that has the same code on every scale.
 ///
-/// Each of the four lines rounds w + kv, where w is a whole number from 0 to
-/// 2^(n-1) and k is 219s, 224s or m, which is from 219 to 4095.
+/// Each of the six lines rounds w + kv, where w is a whole number from 0 to
+/// 2^(n-1) and k is 219s, 224s, m or 2^n, which is from 219 to 4096.
 ///
 /// - An exponent under -90 makes |v| < 2^24 * 2^-90, so |kv| < 1/2 by far, and
 ///   w + kv rounds to w. So does w + k * 0: zero has the same code.
@@ -186,13 +232,52 @@ fn two_to(power: u32) -> i128 {
 ///   the place of |v|.
 ///
 /// Between the two, the fraction is exactly the float. Its numerator is then
-/// under 2^84, or its denominator at most 2^90, and the lines multiply by less
-/// than 2^16 in all.
+/// under 2^84, or its denominator at most 2^90, and the lines multiply by 2^16 at
+/// most in all.
 fn same_code_fraction(significand: i128, exponent: i32) -> Fraction {
     match exponent {
         ..=-91 => Fraction::new(0, 1),
         -90..=-1 => Fraction::new(significand, two_to(exponent.unsigned_abs())),
         0..=60 => Fraction::new(significand * two_to(exponent.unsigned_abs()), 1),
         61.. => Fraction::new(significand.signum() * two_to(60), 1),
+    }
+}
+
+#[cfg(test)]
+mod tests {
+    use super::{dequantize, quantize, Kind};
+    use crate::refusal::Refusal;
+
+    const INFINITY: u32 = 0x7f80_0000;
+
+    #[test]
+    fn the_older_full_range() {
+        // 200/256 is 0.78125, and 200/256 - 1/2 is 0.28125.
+        let brightness = (Kind::Brightness, 0.78125_f32.to_bits());
+        let difference = (Kind::Difference, 0.28125_f32.to_bits());
+        assert_eq!(dequantize(2, 3, 8, 0, 200), Ok(brightness));
+        assert_eq!(dequantize(2, 3, 8, 1, 200), Ok(difference));
+        assert_eq!(quantize(2, 3, 8, 0, brightness.1), Ok(200));
+        assert_eq!(quantize(2, 3, 8, 1, difference.1), Ok(200));
+        // Half a code is rounded up: 1/512 is half of 1/256.
+        assert_eq!(quantize(1, 3, 8, 0, (1.0_f32 / 512.0).to_bits()), Ok(1));
+        assert_eq!(quantize(2, 3, 8, 2, (-0.5_f32).to_bits()), Ok(0));
+        assert_eq!(quantize(2, 4, 8, 2, 0), Err(Refusal::Outside));
+    }
+
+    #[test]
+    fn the_top_of_the_older_full_range() {
+        for (depth, top) in [(8, 255), (10, 1023), (12, 4092)] {
+            assert_eq!(quantize(1, 3, depth, 0, 1.0_f32.to_bits()), Ok(top));
+            assert_eq!(quantize(2, 3, depth, 1, 0.5_f32.to_bits()), Ok(top));
+            assert_eq!(quantize(1, 3, depth, 2, INFINITY), Ok(top));
+        }
+        for code in 4093..=4095_u16 {
+            let value = f32::from(code) / 4096.0;
+            let decoded = dequantize(1, 3, 12, 0, code);
+            assert_eq!(decoded, Ok((Kind::Brightness, value.to_bits())));
+            assert_eq!(quantize(1, 3, 12, 0, value.to_bits()), Ok(4092));
+        }
+        assert_eq!(dequantize(1, 3, 12, 0, 4096), Err(Refusal::CodeTooHigh));
     }
 }

@@ -16,15 +16,15 @@ pub enum Refusal {
     Sample = 5,
     /// Lower and upper numbers that state no one range.
     SampleRange = 6,
-    /// An edition asked that is not 1 or 2.
+    /// An edition asked that is not 1 to 3.
     Edition = 7,
     /// A card's byte 0 above the edition asked.
     TooNew = 8,
     /// A card field, layout, range, depth, channel or weights row outside the paper.
     Outside = 9,
-    /// An access above 2, written at 2 and read at 2.
+    /// An access above 2, written at 2 or later and not later than it is read.
     Access = 10,
-    /// Edition 1 asked to write 12 bits, or an access other than closed.
+    /// An edition asked to write a layout or an access that it lacks.
     EditionLacks = 11,
     NotANumber = 12,
     /// A line not of whole points or over 4,096 points, or an output that is not

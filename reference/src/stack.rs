@@ -7,9 +7,6 @@ use crate::refusal::Refusal;
 
 pub const MOST_CARDS: usize = 1024;
 
-/// The edition at which a stack is listed.
-const LISTED_AT: u8 = 2;
-
 /// The index of the first card that the edition reads and that has the number.
 pub fn find(stack: &[u8], edition: u8, item: u64) -> Result<usize, Refusal> {
     let mut cards = cards(stack)?;
@@ -19,13 +16,13 @@ pub fn find(stack: &[u8], edition: u8, item: u64) -> Result<usize, Refusal> {
         .ok_or(Refusal::NoItem)
 }
 
-/// The whole text of the stack list.
+/// The whole text of the stack list, which is read at the newest edition.
 pub fn list(stack: &[u8]) -> String {
     match cards(stack) {
         Ok(cards) => {
             let mut text = format!("cards {}\n", cards.len());
             for card in cards {
-                text.push_str(&line(card::read(card, LISTED_AT)));
+                text.push_str(&line(card::read(card, card::NEWEST)));
             }
             text
         }
@@ -75,16 +72,29 @@ mod tests {
 
     /// A card of item 7, open, 720 by 576.
     fn card_of_7() -> [u8; SIZE] {
+        written(2, [2, 2, 1, 10, 4, 0, 10, 20])
+    }
+
+    /// The same in a layout, written at an edition.
+    fn written(edition: u8, layout: [u8; 8]) -> [u8; SIZE] {
         let facts = Facts {
-            layout: [2, 2, 1, 10, 4, 0, 10, 20],
+            layout,
             width: 720,
             height: 576,
             item: 7,
             access: OPEN,
         };
         let mut card = [0; SIZE];
-        card::write(2, facts, &mut card).expect("facts inside the paper");
+        card::write(edition, facts, &mut card).expect("facts that the edition writes");
         card
+    }
+
+    #[test]
+    fn the_older_full_range_is_of_edition_3() {
+        let stack = [written(3, [2, 2, 3, 8, 3, 0, 8, 16]), card_of_7()].concat();
+        assert_eq!(list(&stack), "cards 2\n7 open 720x576\n7 open 720x576\n");
+        assert_eq!(find(&stack, 3, 7), Ok(0));
+        assert_eq!(find(&stack, 2, 7), Ok(1));
     }
 
     #[test]
@@ -106,8 +116,8 @@ mod tests {
         let stack = [[0; SIZE], card_of_7(), card_of_7()].concat();
         assert_eq!(find(&stack, 2, 7), Ok(1));
         assert_eq!(find(&stack, 2, 8), Err(Refusal::NoItem));
-        assert_eq!(find(&stack, 3, 8), Err(Refusal::Edition));
-        assert_eq!(find(&stack[1..], 3, 8), Err(Refusal::Size));
+        assert_eq!(find(&stack, 4, 8), Err(Refusal::Edition));
+        assert_eq!(find(&stack[1..], 4, 8), Err(Refusal::Size));
         assert_eq!(find(&[], 1, 7), Err(Refusal::NoItem));
     }
 }

@@ -29,8 +29,8 @@ pub const PARTS: &[Part] = &[
     part("write a card, refusals that compete", writing::competing),
     part("write a card, layouts outside", writing::layouts_outside),
     part("cards, items and access", numbers::items_and_access),
-    part("cards, refusals that compete", reading::competing),
     part("cards, lengths", reading::lengths),
+    part("cards, refusals that compete", reading::competing),
     part("cards, every width and height", numbers::sides),
     part("cards, access and who wrote it", editions::access),
     part("cards, bytes 0 and 1", editions::least_and_written),
@@ -48,11 +48,12 @@ pub type Card = [u8; SIZE];
 /// Places in a card.
 pub const LEAST: usize = 0;
 pub const WRITTEN: usize = 1;
+pub const RANGE: usize = 4;
 pub const DEPTH: usize = 5;
 pub const ITEM: usize = 16;
 pub const ACCESS: usize = 24;
 
-const KNOWN_EDITIONS: [u8; 2] = [1, 2];
+pub const KNOWN_EDITIONS: [u8; 3] = [1, 2, 3];
 
 /// Lengths of room for a card, of which one is right.
 const ROOMS: [usize; 5] = [SIZE, 0, SIZE - 1, SIZE + 1, 2 * SIZE];
@@ -137,9 +138,9 @@ fn compare_read(library: &Library, tally: &mut Tally, card: &[u8], edition: u8) 
     })
 }
 
-/// A reading at both editions and at another.
-fn compare_read_at_three(library: &Library, tally: &mut Tally, card: &[u8], other: u8) -> Flow {
-    for edition in [1, 2, other] {
+/// A reading at every edition that is known.
+fn compare_read_at_known(library: &Library, tally: &mut Tally, card: &[u8]) -> Flow {
+    for edition in KNOWN_EDITIONS {
         compare_read(library, tally, card, edition)?;
     }
     Flow::Continue(())
@@ -149,9 +150,7 @@ fn compare_read_at_three(library: &Library, tally: &mut Tally, card: &[u8], othe
 /// their answers and of the memory after them. Only 1 and 7 can be answered to
 /// them, and the same to each, so the reference is asked at one.
 fn compare_read_at_all(library: &Library, tally: &mut Tally, card: &[u8]) -> Flow {
-    for edition in KNOWN_EDITIONS {
-        compare_read(library, tally, card, edition)?;
-    }
+    compare_read_at_known(library, tally, card)?;
     let mut lent = Guarded::holding(card);
     let mut told = Told::new();
     let expected = Reading::of(expected_read, card, 0).answer;

@@ -5,6 +5,7 @@ use reference::color;
 use reference::refusal::Refusal;
 
 use crate::guarded::{Guarded, Outcome};
+use crate::layouts::RANGES;
 use crate::library::{Conversion, Direction, Library};
 use crate::lines::answer;
 use crate::part::{part, Part};
@@ -22,16 +23,16 @@ mod values;
 /// caught by them.
 pub const PARTS: &[Part] = &[
     part("colors, marked examples", examples::marked),
-    part("colors, corners", values::corners),
     part("colors, greys", values::greys),
     part("colors, short lengths", lengths::short_lines),
-    part("colors, greatest codes and above", refusals::codes),
     part("colors, one number at a time", refusals::single),
+    part("colors, corners", values::corners),
+    part("colors, greatest codes and above", refusals::codes),
     part("colors, numbers in pairs", refusals::pairs),
     part("colors, beyond 4,096 points", lengths::too_many_points),
     part("colors, lengths around 4,096", lengths::long_lines),
     part("colors, random at 10 and 12 bits", values::random),
-    part("colors, grid at 8 bits", values::grid),
+    part("colors, grid at 8 bits", values::in_steps),
 ];
 
 /// The parts that need no library.
@@ -39,21 +40,20 @@ pub const REFERENCE_PARTS: &[Part] = &[part("printed matrices", printed::documen
 
 const MOST_POINTS: usize = 4096;
 const DEPTHS: [u8; 3] = [8, 10, 12];
-const RANGES: [u8; 2] = [1, 2];
 pub const PRIMARIES: [u8; 4] = [1, 2, 3, 4];
 pub const DIRECTIONS: [Direction; 2] = [Direction::RgbToYcbcr, Direction::YcbcrToRgb];
 
 /// The place of the depth in a conversion.
 pub const DEPTH: usize = 1;
 
-/// The sixteen conversions of a depth, in both directions.
+/// The 36 conversions of a depth, in both directions.
 fn conversions(depth: u8) -> impl Iterator<Item = (Direction, Conversion)> {
     PRIMARIES
         .into_iter()
         .flat_map(move |primaries| conversions_of(primaries, depth))
 }
 
-/// The four pairs of ranges, in both directions.
+/// The nine pairs of ranges, in both directions.
 fn conversions_of(primaries: u8, depth: u8) -> impl Iterator<Item = (Direction, Conversion)> {
     DIRECTIONS.into_iter().flat_map(move |direction| {
         RANGES.into_iter().flat_map(move |range_in| {

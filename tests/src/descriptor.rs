@@ -30,6 +30,7 @@ pub const PARTS: &[Part] = &[
     part("read, random bytes", changes::random),
     part("read, random samples", samples::random),
     part("read, ranges mixed", samples::ranges),
+    part("read, numbers around a range's", samples::around_limits),
     part("read, offsets of 16 bits", samples::long_offsets),
     part("descriptors, every layout", shapes::every_layout),
 ];

@@ -83,9 +83,9 @@ pub fn on_all_cores(blocks: u32, go_through: impl Fn(u32, &mut Tally) -> Flow + 
     total
 }
 
-/// The twelve scales.
+/// The eighteen scales.
 fn scales() -> impl Iterator<Item = Scale> {
-    [Range::Narrow, Range::Full].into_iter().flat_map(|range| {
+    Range::NUMBERED.into_iter().flat_map(|(_, range)| {
         [8, 10, 12].into_iter().flat_map(move |depth| {
             [Kind::Brightness, Kind::Difference]
                 .into_iter()
@@ -99,6 +99,7 @@ fn name(scale: Scale) -> String {
     let range = match scale.range {
         Range::Narrow => "narrow",
         Range::Full => "full",
+        Range::LegacyFull => "legacy",
     };
     let kind = match scale.kind {
         Kind::Brightness => "brightness",

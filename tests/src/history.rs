@@ -4,12 +4,12 @@
 use reference::card::Facts;
 use reference::history::Book;
 
-use crate::card::cards::{self, DEPTHS};
-use crate::card::SIZE;
+use crate::card::cards;
+use crate::card::{KNOWN_EDITIONS, SIZE};
 use crate::guarded::{Guarded, Outcome};
 use crate::layouts::bytes_a_point;
 use crate::library::card::Told;
-use crate::library::Library;
+use crate::library::{Layout, Library};
 use crate::part::{part, Part};
 use crate::quantization::refused;
 use crate::random::Random;
@@ -24,6 +24,10 @@ pub const PARTS: &[Part] = &[
 ];
 
 const EDITIONS: [u8; 7] = [0, 1, 2, 3, 4, 5, 255];
+
+/// Those of random histories: most are known.
+const MOSTLY_KNOWN: [u8; 10] = [2, 3, 3, 2, 3, 1, 0, 4, 5, 255];
+
 const ROOMS: [usize; 5] = [0, SIZE - 1, SIZE, SIZE + 1, 2 * SIZE];
 
 const HISTORIES: usize = 20_000;
@@ -159,31 +163,37 @@ fn compare(library: &Library, tally: &mut Tally, asked: &Asked) -> Flow {
     })
 }
 
-/// Facts that are valid at an edition, if there are such with this depth and
+/// Facts that are valid at an edition, if there are such with this layout and
 /// access; sizes and items take turns.
-fn facts(first: u8, depth: u8, access: u8, turn: usize) -> Option<Facts> {
+fn facts(first: u8, layout: Layout, access: u8, turn: usize) -> Option<Facts> {
     let facts = Facts {
         access,
-        ..cards::facts_in_turn(cards::layout(depth), turn)
+        ..cards::facts_in_turn(layout, turn)
     };
     Book::new(first, facts).is_ok().then_some(facts)
 }
 
 /// Every list of up to two rewrites and every last edition, and every list of three
-/// that are each at edition 1 or 2 or refused.
+/// that are each at an edition that is known or refused. Of the layouts that need
+/// edition 1, of those that need 2 and of those that need 3, one has a turn.
 fn every_short_one(library: &Library, tally: &mut Tally) -> Flow {
     let all: Vec<Rewrite> = EDITIONS
         .iter()
         .flat_map(|&edition| ROOMS.map(|room| (edition, room)))
         .collect();
-    let some = [(1, SIZE), (2, SIZE), (3, SIZE), (2, SIZE - 1)];
+    let some = [(1, SIZE), (2, SIZE), (3, SIZE), (4, SIZE), (3, SIZE - 1)];
     let mut random = Random::new();
     let lists = short_lists(&all, 2).chain(short_lists(&some, 3));
     for (turn, rewrites) in lists.enumerate() {
-        for first in [1, 2] {
-            for depth in DEPTHS {
+        let layouts = [
+            cards::layout([8, 10][turn % 2]),
+            cards::layout(12),
+            cards::older([8, 10, 12][turn % 3]),
+        ];
+        for first in KNOWN_EDITIONS {
+            for layout in layouts {
                 for access in 0..=2 {
-                    if let Some(facts) = facts(first, depth, access, turn) {
+                    if let Some(facts) = facts(first, layout, access, turn) {
                         let (packed, floats) = line(facts, &mut random);
                         let asked = Asked {
                             first,
@@ -194,7 +204,8 @@ fn every_short_one(library: &Library, tally: &mut Tally) -> Flow {
                             floats,
                         };
                         compare(library, tally, &asked)?;
-                        compare(library, tally, &Asked { last: 2, ..asked })?;
+                        let last = 2 + (turn % 2) as u8;
+                        compare(library, tally, &Asked { last, ..asked })?;
                     }
                 }
             }
@@ -219,10 +230,10 @@ fn short_lists(rewrites: &[Rewrite], most: u32) -> impl Iterator<Item = Vec<Rewr
 fn random(library: &Library, tally: &mut Tally) -> Flow {
     let mut random = Random::new();
     for turn in 0..HISTORIES {
-        let first = 1 + random.below(2) as u8;
-        let depth = DEPTHS[random.below(3)];
+        let first = KNOWN_EDITIONS[random.below(KNOWN_EDITIONS.len())];
+        let layout = cards::layouts()[random.below(6)];
         let access = random.below(3) as u8;
-        let Some(facts) = facts(first, depth, access, turn) else {
+        let Some(facts) = facts(first, layout, access, turn) else {
             continue;
         };
         let without_1 = random.one_in(2);
@@ -245,7 +256,7 @@ fn random(library: &Library, tally: &mut Tally) -> Flow {
 }
 
 fn edition(random: &mut Random, without_1: bool) -> u8 {
-    match EDITIONS[random.below(EDITIONS.len())] {
+    match MOSTLY_KNOWN[random.below(MOSTLY_KNOWN.len())] {
         1 if without_1 => 2,
         edition => edition,
     }

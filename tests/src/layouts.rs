@@ -10,6 +10,11 @@ pub const DEPTH: usize = 3;
 pub const BYTES: usize = 4;
 pub const OFFSETS: usize = 5;
 
+pub const RANGES: [u8; 3] = [1, 2, 3];
+
+/// The older full range, which needs edition 3.
+pub const LEGACY: u8 = 3;
+
 /// Bytes a point, depth, and three offsets.
 #[derive(Clone, Copy, PartialEq)]
 struct Shape {
@@ -143,9 +148,13 @@ fn orders(a: u8, b: u8, c: u8) -> [[u8; 3]; 6] {
     ]
 }
 
-/// The sixteen combinations of models, primaries and ranges.
+/// The 24 combinations of models, primaries and ranges.
 fn colors() -> impl Iterator<Item = Colors> + Clone {
-    (0..16).map(|turn| [1 + turn % 2, 1 + turn / 2 % 4, 1 + (turn / 8 + turn) % 2])
+    let ranges = RANGES.len() as u8;
+    (0..8 * ranges).map(move |turn| {
+        let (round, turn) = (turn / 8, turn % 8);
+        [1 + turn % 2, 1 + turn / 2, 1 + (round + turn) % ranges]
+    })
 }
 
 fn layout((shape, [model, primaries, range]): (Shape, Colors)) -> Layout {

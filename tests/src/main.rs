@@ -31,7 +31,7 @@ mod wrong;
 
 const USAGE: &str = "\
 usage: tests/run
-       tests/run --exhaustive narrow|full 8|10|12 brightness|difference
+       tests/run --exhaustive narrow|full|legacy 8|10|12 brightness|difference
        tests/run --exhaustive all
        tests/run --exhaustive colors 1|2|3|4
        tests/run --exhaustive colors all";

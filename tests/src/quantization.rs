@@ -4,6 +4,7 @@
 use reference::quantization::{self, Kind, Scale};
 use reference::refusal::Refusal;
 
+use crate::layouts::RANGES;
 use crate::library::{Library, Setting, Slot, FLOAT};
 use crate::part::{part, Part};
 use crate::tally::{Flow, Tally};
@@ -15,19 +16,20 @@ pub mod floats;
 mod reference_itself;
 mod refusals;
 
-/// The parts that try a library.
+/// The parts that try a library, the quick ones first: most wrong programs are
+/// caught by them.
 pub const PARTS: &[Part] = &[
-    part("dequantize, every code", codes::every_code),
-    part("dequantize, then quantize back", codes::there_and_back),
-    part("quantize, rounding ties", floats::ties),
-    part("quantize, floats of codes", floats::of_codes),
-    part("quantize, every exponent", floats::every_exponent),
-    part("quantize, not-a-numbers", floats::not_a_numbers),
-    part("quantize, random floats", floats::random),
-    part("refusals, one input at a time", refusals::single),
-    part("refusals, inputs in pairs", refusals::pairs),
     part("marked examples and traps", examples::marked),
     part("published figures", examples::published),
+    part("quantize, not-a-numbers", floats::not_a_numbers),
+    part("dequantize, then quantize back", codes::there_and_back),
+    part("refusals, one input at a time", refusals::single),
+    part("quantize, floats of codes", floats::of_codes),
+    part("quantize, rounding ties", floats::ties),
+    part("quantize, every exponent", floats::every_exponent),
+    part("dequantize, every code", codes::every_code),
+    part("refusals, inputs in pairs", refusals::pairs),
+    part("quantize, random floats", floats::random),
 ];
 
 /// The parts that need no library: the reference is compared with itself.
@@ -46,10 +48,10 @@ const EMPTY_SLOT: Slot = [
     0xa5a5_a5a5,
 ];
 
-/// The 36 settings that are not refused.
+/// The 54 settings that are not refused.
 fn settings() -> impl Iterator<Item = Setting> {
     [1, 2].into_iter().flat_map(|model| {
-        [1, 2].into_iter().flat_map(move |range| {
+        RANGES.into_iter().flat_map(move |range| {
             [8, 10, 12].into_iter().flat_map(move |depth| {
                 [0, 1, 2]
                     .into_iter()

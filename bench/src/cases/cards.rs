@@ -4,22 +4,22 @@ use super::{label, MANY};
 use crate::case::Case;
 use crate::library;
 use crate::plain;
-use crate::plain::cards::{Facts, Numbered, BYTES, MOST_CARDS};
+use crate::plain::cards::{Facts, Numbered, BYTES, MOST_CARDS, NEWEST};
 use crate::plain::layout::Numbers;
 use crate::random::Random;
 
 /// A card and the edition that is asked.
 type Asked = (Vec<u8>, u8);
 
-/// Bytes that are refused at edition 2: 9, 8, 9, 10, 9.
-const PLACES: [(usize, u8); 5] = [(0, 0), (0, 3), (2, 3), (24, 3), (31, 1)];
+/// Bytes that are refused at the newest edition: 9, 8, 9, 10, 9.
+const PLACES: [(usize, u8); 5] = [(0, 0), (0, NEWEST + 1), (2, 3), (24, 3), (31, 1)];
 
 pub fn cases() -> Result<Vec<Case>, String> {
     let mut random = Random::new();
     let facts: Vec<Facts> = (0..MANY as u64)
         .map(|index| any_facts(&mut random, 1 + index))
         .collect();
-    let cards: Vec<Asked> = facts.iter().map(|facts| (card(*facts), 2)).collect();
+    let cards: Vec<Asked> = facts.iter().map(|facts| (card(*facts), NEWEST)).collect();
     Ok(vec![
         read(cards.clone())?,
         write(facts)?,
@@ -40,17 +40,17 @@ pub fn any_facts(random: &mut Random, item: u64) -> Facts {
 
 fn card(facts: Facts) -> Vec<u8> {
     let mut card = vec![0; BYTES];
-    plain::cards::write(2, facts, &mut card);
+    plain::cards::write(NEWEST, facts, &mut card);
     card
 }
 
 /// A card too short, an edition that is not known, and cards with a wrong byte.
 fn wrong(card: &[u8]) -> Vec<Asked> {
-    let mut wrong = vec![(card[1..].to_vec(), 2), (card.to_vec(), 3)];
+    let mut wrong = vec![(card[1..].to_vec(), NEWEST), (card.to_vec(), NEWEST + 1)];
     for (place, byte) in PLACES {
         let mut card = card.to_vec();
         card[place] = byte;
-        wrong.push((card, 2));
+        wrong.push((card, NEWEST));
     }
     wrong
 }
@@ -80,14 +80,17 @@ fn write(facts: Vec<Facts>) -> Result<Case, String> {
     };
     let outside = Facts { width: 0, ..first };
     let refused = [
-        (3, first, BYTES),
-        (2, outside, BYTES),
+        (NEWEST + 1, first, BYTES),
+        (NEWEST, outside, BYTES),
         (1, first, BYTES),
-        (2, first, BYTES - 1),
+        (NEWEST, first, BYTES - 1),
     ];
     Case::calls(
         label("card_write", "32 bytes", "any facts"),
-        facts.into_iter().map(|facts| (2, facts, BYTES)).collect(),
+        facts
+            .into_iter()
+            .map(|facts| (NEWEST, facts, BYTES))
+            .collect(),
         &refused,
         [0; BYTES],
         [
@@ -129,13 +132,13 @@ fn find(random: &mut Random) -> Result<Case, String> {
         .flat_map(|item| card(any_facts(random, item)))
         .collect();
     let refused = [
-        (stack[1..].to_vec(), 2, item),
-        (stack.clone(), 3, item),
-        (stack.clone(), 2, item + 1),
+        (stack[1..].to_vec(), NEWEST, item),
+        (stack.clone(), NEWEST + 1, item),
+        (stack.clone(), NEWEST, item + 1),
     ];
     Case::calls(
         label("stack_find", "1,024 cards", "item in the last"),
-        vec![(stack, 2, item)],
+        vec![(stack, NEWEST, item)],
         &refused,
         (),
         [

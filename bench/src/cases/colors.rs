@@ -8,8 +8,9 @@ use crate::plain::colors::{self as plain, Conversion};
 
 const DEPTHS: [u8; 3] = [8, 10, 12];
 
-/// The ranges of R'G'B' and of Y'CbCr: both narrow, both full, and the usual two.
-const RANGES: [[u8; 2]; 3] = [[1, 1], [2, 2], [2, 1]];
+/// The ranges of R'G'B' and of Y'CbCr: both narrow, both full, the usual two, both
+/// the older full one, and those of an early capture and its picture.
+const RANGES: [[u8; 2]; 5] = [[1, 1], [2, 2], [2, 1], [3, 3], [2, 3]];
 
 type Jobs = [LineJob<Conversion, u16, u16>; 2];
 
@@ -63,6 +64,7 @@ fn add(
 fn range_name(range: u8) -> &'static str {
     match range {
         1 => "narrow",
-        _ => "full",
+        2 => "full",
+        _ => "older full",
     }
 }

@@ -5,7 +5,7 @@ use super::label;
 use crate::case::Case;
 use crate::library;
 use crate::plain;
-use crate::plain::cards::BYTES;
+use crate::plain::cards::{BYTES, NEWEST};
 use crate::plain::history::{History, Replayed};
 use crate::random::Random;
 
@@ -19,7 +19,7 @@ pub fn cases() -> Result<Vec<Case>, String> {
         .map(|item| any_history(&mut random, item))
         .collect();
     let mut refused = vec![histories[0].clone(); 4];
-    refused[0].first = 3;
+    refused[0].first = NEWEST + 1;
     refused[1].facts.item = 0;
     refused[2].first = 1;
     refused[2].facts.access = 2;
@@ -41,23 +41,24 @@ pub fn cases() -> Result<Vec<Case>, String> {
     Ok(vec![replay])
 }
 
-/// First written and last read at edition 2; one in nine rewrites is at 1, and one
-/// in nine at an edition that is not known.
+/// First written and last read at the newest edition; one in nine rewrites is at 1,
+/// one in nine at an edition that is not known, and a third are at 2.
 fn any_history(random: &mut Random, item: u64) -> History {
     let facts = any_facts(random, item);
     let [_, _, _, _, bytes, ..] = facts.layout;
     let edition = |_| match random.below(9) {
         0 => 1,
-        1 => 3,
-        _ => 2,
+        1 => NEWEST + 1,
+        2..=4 => 2,
+        _ => NEWEST,
     };
     let editions = (0..REWRITES).map(edition).collect();
     History {
-        first: 2,
+        first: NEWEST,
         facts,
         editions,
         lengths: lengths(),
-        last: 2,
+        last: NEWEST,
         packed: (0..POINTS * usize::from(bytes))
             .map(|_| random.next() as u8)
             .collect(),

@@ -1,8 +1,9 @@
-//! Lines in four layouts, smooth and random.
+//! Lines in four layouts, smooth and random, and decoding and encoding in the other
+//! ranges.
 
 use super::label;
 use crate::case::{Case, Label, Line, LineJob};
-use crate::inputs::{self, packed_length, POINTS};
+use crate::inputs::{self, packed_length, Forms, POINTS};
 use crate::library::lines as library;
 use crate::plain::layout::Numbers;
 use crate::plain::lines as plain;
@@ -15,6 +16,9 @@ const LAYOUTS: [Numbers; 4] = [
     [2, 4, 1, 12, 5, 0, 12, 24],
     [2, 4, 1, 12, 8, 4, 20, 36],
 ];
+
+/// 12 bits in 5 bytes, as above, in both full ranges.
+const FULL: [u8; 2] = [2, 3];
 
 /// No model 3.
 const OUTSIDE: Numbers = [3, 1, 1, 8, 3, 0, 8, 16];
@@ -31,18 +35,7 @@ pub fn cases() -> Result<Vec<Case>, String> {
         for (input, line) in lines {
             let bytes = packed_length(layout);
             let called = |entry| named(entry, layout, input);
-            cases.push(case(
-                called("decode_line"),
-                (layout, &line.packed, ELEMENTS),
-                None,
-                [library::decode_line, plain::decode_line],
-            )?);
-            cases.push(case(
-                called("encode_line"),
-                (layout, &line.values, bytes),
-                Some(f32::NAN),
-                [library::encode_line, plain::encode_line],
-            )?);
+            cases.extend(floats(layout, input, &line)?);
             cases.push(case(
                 called("unpack_line"),
                 (layout, &line.packed, ELEMENTS),
@@ -57,12 +50,40 @@ pub fn cases() -> Result<Vec<Case>, String> {
             )?);
         }
     }
+    for range in FULL {
+        let mut layout = LAYOUTS[2];
+        layout[2] = range;
+        cases.extend(floats(layout, "smooth", &inputs::smooth(layout))?);
+        cases.extend(floats(layout, "random", &inputs::random(layout))?);
+    }
     Ok(cases)
 }
 
+/// What depends on the range.
+fn floats(layout: Numbers, input: &str, line: &Forms) -> Result<[Case; 2], String> {
+    let decode = case(
+        named("decode_line", layout, input),
+        (layout, &line.packed, ELEMENTS),
+        None,
+        [library::decode_line, plain::decode_line],
+    )?;
+    let encode = case(
+        named("encode_line", layout, input),
+        (layout, &line.values, packed_length(layout)),
+        Some(f32::NAN),
+        [library::encode_line, plain::encode_line],
+    )?;
+    Ok([decode, encode])
+}
+
 fn named(entry: &'static str, layout: Numbers, input: &str) -> Label {
-    let [_, _, _, depth, bytes, ..] = layout;
-    label(entry, &format!("{bytes} bytes, {depth} bits"), input)
+    let [_, _, range, depth, bytes, ..] = layout;
+    let range = match range {
+        1 => "",
+        2 => ", full",
+        _ => ", older full",
+    };
+    label(entry, &format!("{bytes} bytes, {depth} bits{range}"), input)
 }
 
 /// Refused too: a layout outside the paper, an output too short, and a line that

@@ -112,7 +112,7 @@ fn encode_point() -> Result<Case, String> {
 fn setting(random: &mut Random) -> Setting {
     [
         1 + random.below(2),
-        1 + random.below(2),
+        1 + random.below(3),
         random.depth(),
         random.below(3),
     ]

@@ -6,6 +6,9 @@ use super::refusal::{ACCESS, EDITION, LATER_EDITION, LENGTH, NO_ITEM, OUTSIDE, S
 pub const BYTES: usize = 32;
 pub const MOST_CARDS: usize = 1024;
 
+/// The newest edition.
+pub const NEWEST: u8 = 3;
+
 const CLOSED: u8 = 0;
 const OPEN: u8 = 2;
 
@@ -33,7 +36,7 @@ pub fn read(card: &[u8], edition: u8, layout: &mut Numbers, numbers: &mut Number
 }
 
 pub fn write(edition: u8, facts: Facts, out: &mut [u8]) -> i64 {
-    if !matches!(edition, 1 | 2) {
+    if !matches!(edition, 1..=NEWEST) {
         return EDITION;
     }
     if !facts.valid() {
@@ -71,7 +74,7 @@ pub fn find(stack: &[u8], edition: u8, item: u64) -> i64 {
     if !cards.remainder().is_empty() || cards.len() > MOST_CARDS {
         return SIZE;
     }
-    if !matches!(edition, 1 | 2) {
+    if !matches!(edition, 1..=NEWEST) {
         return EDITION;
     }
     for (index, card) in cards.enumerate() {
@@ -85,7 +88,7 @@ pub fn find(stack: &[u8], edition: u8, item: u64) -> i64 {
 /// What a card shows at an edition.
 pub fn shown(card: &[u8], edition: u8) -> Result<Facts, i64> {
     let card = <&[u8; BYTES]>::try_from(card).map_err(|_| SIZE)?;
-    if !matches!(edition, 1 | 2) {
+    if !matches!(edition, 1..=NEWEST) {
         return Err(EDITION);
     }
     let [least, writer, ..] = *card;
@@ -114,13 +117,14 @@ pub fn shown(card: &[u8], edition: u8) -> Result<Facts, i64> {
 /// The access that bytes 24 to 31 show.
 fn shown_access(end: u64, writer: u8, edition: u8) -> Result<u8, i64> {
     let access = end as u8;
+    let later = writer > edition;
     match (writer, edition) {
         (1, _) if end != 0 => Err(OUTSIDE),
         (1, _) | (_, 1) => Ok(CLOSED),
-        (2, _) if access > OPEN => Err(ACCESS),
-        (2, _) if end > 0xff => Err(OUTSIDE),
-        // Written later than it is read.
-        _ if access > OPEN => Ok(CLOSED),
+        _ if later && access > OPEN => Ok(CLOSED),
+        _ if later => Ok(access),
+        _ if access > OPEN => Err(ACCESS),
+        _ if end > 0xff => Err(OUTSIDE),
         _ => Ok(access),
     }
 }
@@ -144,11 +148,11 @@ impl Facts {
     }
 }
 
-fn least_edition([_, _, _, depth, ..]: Numbers) -> u8 {
-    if depth == 12 {
-        2
-    } else {
-        1
+fn least_edition([_, _, range, depth, ..]: Numbers) -> u8 {
+    match (range, depth) {
+        (3, _) => 3,
+        (_, 12) => 2,
+        _ => 1,
     }
 }
 

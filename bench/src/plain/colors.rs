@@ -45,7 +45,7 @@ fn convert(
         _ => return OUTSIDE,
     };
     let inside =
-        matches!(depth, 8 | 10 | 12) && matches!(range_in, 1 | 2) && matches!(range_out, 1 | 2);
+        matches!(depth, 8 | 10 | 12) && matches!(range_in, 1..=3) && matches!(range_out, 1..=3);
     if !inside {
         return OUTSIDE;
     }
@@ -58,7 +58,7 @@ fn convert(
         return CODE_TOO_HIGH;
     }
     let [first, second, third] = rows(conversion, weights);
-    let top = (1 << depth) - 1;
+    let top = Scale::new(range_out, depth, false).top as u64;
     for (codes, out) in codes.chunks_exact(3).zip(out.chunks_exact_mut(3)) {
         let point = [codes[0], codes[1], codes[2]].map(u64::from);
         out[0] = first.number(point).min(top) as u16;

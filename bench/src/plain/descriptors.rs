@@ -60,14 +60,15 @@ fn read_into(bytes: &[u8], layout: &mut Numbers) -> Result<(), i64> {
         return Err(PLANES);
     }
     let (depth, offsets) = fields(&bytes[SAMPLES..], size).ok_or(SAMPLE)?;
-    // No numbers state both ranges.
-    let [mut narrow, mut full] = [true; 2];
+    // No numbers state two ranges.
+    let [mut narrow, mut full, mut legacy] = [true; 3];
     for sample in bytes[SAMPLES..].chunks_exact(SAMPLE_BYTES) {
         let stated = [number(sample, 8), number(sample, 12)];
         narrow &= stated == limits(1, depth, (model == 2) & (sample[3] > 0));
         full &= stated == limits(2, depth, false);
+        legacy &= stated == limits(3, depth, false);
     }
-    let range = u8::from(narrow) + 2 * u8::from(full);
+    let range = u8::from(narrow) + 2 * u8::from(full) + 3 * u8::from(legacy);
     if range == 0 {
         return Err(NO_RANGE);
     }
@@ -106,11 +107,13 @@ fn fields(samples: &[u8], size: u8) -> Option<(u8, [u8; 3])> {
 
 /// The lower and the upper number.
 fn limits(range: u8, depth: u8, difference: bool) -> [u32; 2] {
-    if range == 1 {
-        let upper = 235 + 5 * u32::from(difference);
-        [16 << (depth - 8), upper << (depth - 8)]
-    } else {
-        [0, (1 << depth) - 1]
+    match range {
+        1 => {
+            let upper = 235 + 5 * u32::from(difference);
+            [16 << (depth - 8), upper << (depth - 8)]
+        }
+        2 => [0, (1 << depth) - 1],
+        _ => [0, 1 << depth],
     }
 }
 

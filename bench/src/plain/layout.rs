@@ -14,11 +14,12 @@ pub struct Layout {
     pub scales: [Scale; 3],
 }
 
-/// A code is the base plus the value times the span, rounded and clamped.
+/// A code is the base plus the value times the span, rounded and brought to 0 .. top.
 #[derive(Clone, Copy)]
 pub struct Scale {
     pub span: i64,
     pub base: i64,
+    pub top: i64,
 }
 
 /// Whether the numbers are a layout's.
@@ -26,7 +27,7 @@ pub fn valid(numbers: Numbers) -> bool {
     let [model, primaries, range, depth, bytes, offsets @ ..] = numbers;
     let known = matches!(model, 1 | 2)
         && matches!(primaries, 1..=4)
-        && matches!(range, 1 | 2)
+        && matches!(range, 1..=3)
         && matches!(depth, 8 | 10 | 12)
         && matches!(bytes, 3..=8);
     let within = |offset: u8| u32::from(offset) + u32::from(depth) <= 8 * u32::from(bytes);
@@ -68,13 +69,20 @@ impl Layout {
 
 impl Scale {
     pub fn new(range: u8, depth: u8, difference: bool) -> Scale {
-        let (span, base) = if range == 1 {
-            let span = 219 + 5 * i64::from(difference);
-            let base = 16 + 112 * i64::from(difference);
-            (span << (depth - 8), base << (depth - 8))
-        } else {
-            ((1 << depth) - 1, i64::from(difference) << (depth - 1))
+        let middle = i64::from(difference) << (depth - 1);
+        let (span, base) = match range {
+            1 => {
+                let span = 219 + 5 * i64::from(difference);
+                let base = 16 + 112 * i64::from(difference);
+                (span << (depth - 8), base << (depth - 8))
+            }
+            2 => ((1 << depth) - 1, middle),
+            _ => (1 << depth, middle),
         };
-        Scale { span, base }
+        let top = match (range, depth) {
+            (3, 12) => 4092,
+            _ => (1 << depth) - 1,
+        };
+        Scale { span, base, top }
     }
 }

@@ -163,20 +163,19 @@ pub fn value(scale: Scale, code: u64) -> f32 {
 
 fn encode<const BYTES: usize>(layout: Layout, values: &[f32], packed: &mut [u8]) {
     let [first, second, third] = layout.offsets;
-    let greatest = layout.greatest_code();
     for (bytes, values) in packed.chunks_exact_mut(BYTES).zip(values.chunks_exact(3)) {
-        let point = code(layout.scales[0], greatest, values[0]) << first
-            | code(layout.scales[1], greatest, values[1]) << second
-            | code(layout.scales[2], greatest, values[2]) << third;
+        let point = code(layout.scales[0], values[0]) << first
+            | code(layout.scales[1], values[1]) << second
+            | code(layout.scales[2], values[2]) << third;
         store::<BYTES>(bytes, point);
     }
 }
 
 /// The code of a float that is a number: floor(span * v + base + 1/2), clamped. An
 /// f64 holds the product.
-pub fn code(scale: Scale, greatest: u64, value: f32) -> u64 {
+pub fn code(scale: Scale, value: f32) -> u64 {
     let number = f64::from(value) * scale.span as f64 + (scale.base as f64 + 0.5);
-    number.clamp(0.0, greatest as f64) as i32 as u64
+    number.clamp(0.0, scale.top as f64) as i32 as u64
 }
 
 /// The bits of a float without its sign.

@@ -26,14 +26,13 @@ pub fn quantize(setting: Setting, value: f32) -> i64 {
     if value.is_nan() {
         return NOT_A_NUMBER;
     }
-    let [_, _, depth, _] = setting;
-    lines::code(scale, (1 << depth) - 1, value) as i64
+    lines::code(scale, value) as i64
 }
 
 fn scale(setting: Setting) -> Option<Scale> {
     let [model, range, depth, channel] = setting;
     let inside = matches!(model, 1 | 2)
-        && matches!(range, 1 | 2)
+        && matches!(range, 1..=3)
         && matches!(depth, 8 | 10 | 12)
         && channel <= 2;
     inside.then(|| Scale::new(range, depth, difference(setting)))

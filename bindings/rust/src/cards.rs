@@ -10,6 +10,11 @@ pub const CARD_SIZE: usize = 32;
 /// The most cards of a stack.
 pub const MOST_CARDS: usize = 1024;
 
+/// The newest edition: 1 to this are known. Edition 1 has narrow and full range at 8
+/// and 10 bits, and no access; 2 also has 12 bits and access; 3 also has
+/// [legacy full range](crate::range::LEGACY_FULL).
+pub const NEWEST_EDITION: u8 = 3;
+
 /// Who may see an item.
 pub mod access {
     /// Closed, as is a card that is silent about it.
@@ -53,11 +58,12 @@ impl Facts {
     }
 }
 
-/// What a card shows at an edition, 1 or 2. Refused: 1, 7, 9 where byte 0 is 0, 8, 9
-/// for bytes 1 to 23 and a byte 0 that is not the layout's, 10, 9 for bytes 24 to 31.
+/// What a card shows at an edition, 1 to [`NEWEST_EDITION`]. Refused: 1, 7, 9 where
+/// byte 0 is 0, 8, 9 for bytes 1 to 23 and a byte 0 that is not the layout's, 10, 9 for
+/// bytes 24 to 31.
 ///
 /// ```
-/// use imurraqi::{access, card_read, Refusal};
+/// use imurraqi::{access, card_read, Refusal, NEWEST_EDITION};
 ///
 /// // As docs/FORMATS.md has it: item 7, 720 by 576, open, written at edition 2.
 /// let card = [
@@ -69,7 +75,8 @@ impl Facts {
 /// assert_eq!(facts.access, access::OPEN);
 /// // Edition 1 knows of no access, and shows the card as closed.
 /// assert_eq!(card_read(&card, 1)?.access, access::CLOSED);
-/// assert_eq!(card_read(&card, 3), Err(Refusal::UNKNOWN_EDITION));
+/// assert_eq!(card_read(&card, NEWEST_EDITION)?.access, access::OPEN);
+/// assert_eq!(card_read(&card, NEWEST_EDITION + 1), Err(Refusal::UNKNOWN_EDITION));
 /// # Ok::<(), Refusal>(())
 /// ```
 #[inline]
@@ -87,9 +94,9 @@ pub fn card_read(card: &[u8], edition: u8) -> Result<Facts, Refusal> {
 /// Writes the card of facts at an edition, [`CARD_SIZE`] bytes. Refused: 7, 9, 11, 13.
 ///
 /// ```
-/// use imurraqi::{access, card_read, card_write, Facts, Layout, Refusal, CARD_SIZE};
+/// use imurraqi::{access, card_read, card_write, range, Facts, Layout, Refusal, CARD_SIZE};
 ///
-/// let facts = Facts {
+/// let mut facts = Facts {
 ///     layout: Layout::from_bytes([2, 2, 1, 10, 4, 0, 10, 20]),
 ///     width: 720,
 ///     height: 576,
@@ -100,6 +107,11 @@ pub fn card_read(card: &[u8], edition: u8) -> Result<Facts, Refusal> {
 /// assert_eq!(card_write(1, facts, &mut card), Err(Refusal::UNWRITABLE));
 /// assert_eq!(card_write(2, facts, &mut card), Ok(()));
 /// assert_eq!(card_read(&card, 2), Ok(facts));
+/// // An early capture, which edition 3 has.
+/// facts.layout.range = range::LEGACY_FULL;
+/// assert_eq!(card_write(2, facts, &mut card), Err(Refusal::UNWRITABLE));
+/// assert_eq!(card_write(3, facts, &mut card), Ok(()));
+/// assert_eq!(card_read(&card, 2), Err(Refusal::LATER_EDITION));
 /// ```
 #[inline]
 pub fn card_write(edition: u8, facts: Facts, out: &mut [u8]) -> Result<(), Refusal> {

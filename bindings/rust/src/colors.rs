@@ -13,7 +13,7 @@ pub struct Conversion {
     pub depth: u8,
     /// The [`range`](crate::range) of the codes that are given.
     pub range_in: u8,
-    /// The range of those that are made.
+    /// The range of those that are made: the same, or any other.
     pub range_out: u8,
 }
 

@@ -56,11 +56,11 @@ pub struct Replayed {
 ///     access: access::OPEN,
 /// };
 /// let (mut card, mut outputs, mut answers, mut values) = ([0; 32], [0; 64], [0; 2], [0.0; 3]);
-/// // Written at 2; refused at 3, which is not known; rewritten at 1, which closes it.
+/// // Written at 2; refused at 4, which is not known; rewritten at 1, which closes it.
 /// let replayed = replay(History {
 ///     first: 2,
 ///     facts,
-///     editions: &[3, 1],
+///     editions: &[4, 1],
 ///     lengths: &[32, 32],
 ///     last: 2,
 ///     packed: &[0xae, 0x00, 0x0f, 0x04],

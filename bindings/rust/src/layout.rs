@@ -28,6 +28,9 @@ pub mod range {
     pub const NARROW: u8 = 1;
     /// A brightness from 0 to 1 has all codes of its depth.
     pub const FULL: u8 = 2;
+    /// The older full range, of BT.2100-0 and JFIF: a brightness of 1 would have the
+    /// code 2^depth, one above all. No code above 4092 is made at 12 bits.
+    pub const LEGACY_FULL: u8 = 3;
 }
 
 /// How a point lies in its bytes.

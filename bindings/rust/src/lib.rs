@@ -47,6 +47,7 @@ mod values;
 
 pub use cards::{
     access, card_read, card_rewrite, card_write, find, stack_find, Facts, CARD_SIZE, MOST_CARDS,
+    NEWEST_EDITION,
 };
 pub use colors::{rgb_to_ycbcr, ycbcr_to_rgb, Conversion};
 pub use descriptors::{descriptor_read, descriptor_write, DESCRIPTOR_SIZE};

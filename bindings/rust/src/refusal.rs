@@ -54,7 +54,7 @@ table! {
     8 LATER_EDITION "the card is for later editions only";
     9 OUTSIDE "a number, field or layout is none of those that are allowed";
     10 UNKNOWN_ACCESS "the card's access is not known";
-    11 UNWRITABLE "edition 1 can't write 12 bits, nor an access other than closed";
+    11 UNWRITABLE "the edition lacks the layout or the access";
     12 NOT_A_NUMBER "a float is not a number";
     13 WRONG_LINE_OR_OUTPUT "a line not of whole points or of over 4,096, \
         or an output not exactly as long as needed";

@@ -45,6 +45,8 @@ impl Dequantized {
 /// let cb = Setting { model: model::YCBCR, range: range::NARROW, depth: 10, channel: 1 };
 /// assert_eq!(dequantize(cb, 960), Ok(Dequantized::Difference(0.5)));
 /// assert_eq!(dequantize(cb, 1024), Err(Refusal::CODE_TOO_HIGH));
+/// let early = Setting { range: range::LEGACY_FULL, depth: 8, ..cb };
+/// assert_eq!(dequantize(early, 64), Ok(Dequantized::Difference(-0.25)));
 /// ```
 #[inline]
 pub fn dequantize(setting: Setting, code: u16) -> Result<Dequantized, Refusal> {
@@ -65,7 +67,8 @@ pub fn dequantize(setting: Setting, code: u16) -> Result<Dequantized, Refusal> {
     })
 }
 
-/// The code of a float, worked out from its exact value. Refused: 9, then 12.
+/// The code of a float, worked out from its exact value. Legacy full range makes no
+/// code above 4092 at 12 bits. Refused: 9, then 12.
 ///
 /// ```
 /// use imurraqi::{model, quantize, range, Refusal, Setting};
@@ -74,6 +77,8 @@ pub fn dequantize(setting: Setting, code: u16) -> Result<Dequantized, Refusal> {
 /// assert_eq!(quantize(cb, 0.5), Ok(960));
 /// assert_eq!(quantize(cb, f32::INFINITY), Ok(1023));
 /// assert_eq!(quantize(cb, f32::NAN), Err(Refusal::NOT_A_NUMBER));
+/// let early = Setting { range: range::LEGACY_FULL, depth: 12, ..cb };
+/// assert_eq!(quantize(early, 0.5), Ok(4092));
 /// ```
 #[inline]
 pub fn quantize(setting: Setting, value: f32) -> Result<u16, Refusal> {

@@ -2,22 +2,41 @@
 
 use reference::card::{self, Facts};
 
-use crate::layouts::{self, DEPTH};
+use crate::layouts::{self, DEPTH, LEGACY, RANGE};
 use crate::library::Layout;
 
 use super::{Card, ACCESS, SIZE, WRITTEN};
 
-pub const DEPTHS: [u8; 3] = [8, 10, 12];
+/// Depths, and whether a layout is in the older full range.
+const KINDS: [(u8, bool); 6] = [
+    (8, false),
+    (10, false),
+    (12, false),
+    (8, true),
+    (10, true),
+    (12, true),
+];
 
 const SIDES: [[u16; 2]; 5] = [[720, 576], [1, 4096], [4096, 1], [256, 257], [4095, 2]];
 const ITEMS: [u64; 5] = [7, u64::MAX, 0x0102_0304_0506_0708, 1 << 56, 1];
 
-/// A layout of each depth.
+/// A layout of each depth in narrow or full range. Edition 1 has those of 8 and 10
+/// bits, edition 2 has all.
 pub fn layout(depth: u8) -> Layout {
-    layouts_of(depth)[0]
+    layouts_of(depth, false)[0]
 }
 
-/// Facts that are closed, so that both editions write them at 8 and 10 bits.
+/// The same in the older full range, which edition 3 has.
+pub fn older(depth: u8) -> Layout {
+    layouts_of(depth, true)[0]
+}
+
+/// Layouts of every depth, in the older full range and not.
+pub fn layouts() -> [Layout; 6] {
+    KINDS.map(|(depth, is_older)| layouts_of(depth, is_older)[0])
+}
+
+/// Facts that are closed, so that every edition writes them at 8 and 10 bits.
 pub fn facts(depth: u8) -> Facts {
     facts_in_turn(layout(depth), 0)
 }
@@ -34,10 +53,20 @@ pub fn facts_in_turn(layout: Layout, turn: usize) -> Facts {
     }
 }
 
-/// The card of facts that edition 2 writes.
+/// The least edition that has a layout.
+pub fn least(layout: Layout) -> u8 {
+    match (layout[RANGE], layout[DEPTH]) {
+        (LEGACY, _) => 3,
+        (_, 12) => 2,
+        _ => 1,
+    }
+}
+
+/// The card of facts that edition 2 writes or, if it has not their layout, edition 3.
 pub fn card(facts: Facts) -> Card {
     let mut card = [0; SIZE];
-    card::write(2, facts, &mut card).expect("facts that edition 2 writes");
+    let edition = least(facts.layout).max(2);
+    card::write(edition, facts, &mut card).expect("facts that the edition writes");
     card
 }
 
@@ -48,18 +77,19 @@ pub fn written_at(written: u8, facts: Facts) -> Card {
     card
 }
 
-/// Cards that are accepted, of every depth, from editions 1 and 2 and later ones,
-/// with every access number that edition 2 knows and some that it does not. Of
-/// the later ones, every second has bytes after the access.
+/// Cards that are accepted at edition 3, of every depth, in the older full range and
+/// not, from every edition and from later ones, with every access number that is
+/// known and, from later ones, some that are not. Of the later ones, every second
+/// has bytes after the access.
 pub fn chosen() -> Vec<Card> {
     let mut cards = Vec::new();
-    for depth in DEPTHS {
-        let layouts = layouts_of(depth);
+    for (depth, is_older) in KINDS {
+        let layouts = layouts_of(depth, is_older);
         for written in [1, 2, 3, 4, 255] {
             let numbers: &[u8] = match written {
-                1 if depth == 12 => &[],
+                _ if written < least(layouts[0]) => &[],
                 1 => &[0],
-                2 => &[0, 1, 2],
+                2 | 3 => &[0, 1, 2],
                 _ => &[0, 1, 2, 3, 255],
             };
             for &access in numbers {
@@ -67,7 +97,7 @@ pub fn chosen() -> Vec<Card> {
                 let facts = facts_in_turn(layouts[turn % layouts.len()], turn);
                 let mut card = written_at(written, facts);
                 card[ACCESS] = access;
-                if written > 2 && turn % 2 == 1 {
+                if written > 3 && turn % 2 == 1 {
                     card[ACCESS + 1..].fill(turn as u8);
                 }
                 cards.push(card);
@@ -78,8 +108,16 @@ pub fn chosen() -> Vec<Card> {
 }
 
 /// One layout of each size of points, with gaps.
-fn layouts_of(depth: u8) -> Vec<Layout> {
+fn layouts_of(depth: u8, is_older: bool) -> Vec<Layout> {
     layouts::one_of_each_size()
         .filter(|layout| layout[DEPTH] == depth)
+        .map(|mut layout| {
+            layout[RANGE] = match layout[RANGE] {
+                _ if is_older => LEGACY,
+                LEGACY => 2,
+                range => range,
+            };
+            layout
+        })
         .collect()
 }

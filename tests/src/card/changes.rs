@@ -5,23 +5,30 @@ use crate::random::Random;
 use crate::tally::{Flow, Tally};
 
 use super::cards;
-use super::{compare_read, compare_read_at_all, compare_rewrite, Card, KNOWN_EDITIONS, SIZE};
+use super::{
+    compare_read_at_all, compare_read_at_known, compare_rewrite, Card, KNOWN_EDITIONS, SIZE,
+};
 
 /// What each of two bytes is changed to.
-const TELLING: [u8; 6] = [0, 1, 2, 3, 12, 255];
+const TELLING: [u8; 7] = [0, 1, 2, 3, 4, 12, 255];
 /// Times that each two bytes are changed together to random ones.
 const RANDOM_CHANGES: usize = 4;
 const RANDOM_CARDS: usize = 40_000;
 
-/// All values of all bytes, at all editions.
+/// All values of all bytes, at all editions that are known, and every fourth at all
+/// editions.
 pub fn single(library: &Library, tally: &mut Tally) -> Flow {
     for card in cards::chosen() {
         for place in 0..SIZE {
             for byte in 0..=u8::MAX {
                 let mut changed = card;
                 changed[place] = byte;
-                compare_read_at_all(library, tally, &changed)?;
-                let edition = KNOWN_EDITIONS[usize::from(byte % 2)];
+                if usize::from(byte) % 4 == place % 4 {
+                    compare_read_at_all(library, tally, &changed)?;
+                } else {
+                    compare_read_at_known(library, tally, &changed)?;
+                }
+                let edition = KNOWN_EDITIONS[usize::from(byte) % KNOWN_EDITIONS.len()];
                 compare_rewrite(library, tally, &changed, edition, SIZE)?;
             }
         }
@@ -32,16 +39,14 @@ pub fn single(library: &Library, tally: &mut Tally) -> Flow {
 /// Each two bytes, each at the numbers that tell most, so that any two refusals
 /// compete.
 pub fn pairs(library: &Library, tally: &mut Tally) -> Flow {
-    for card in cards::chosen().into_iter().step_by(3) {
+    for card in cards::chosen().into_iter().step_by(5) {
         for (first, second) in places() {
             for one in TELLING {
                 for other in TELLING {
                     let mut changed = card;
                     changed[first] = one;
                     changed[second] = other;
-                    for edition in KNOWN_EDITIONS {
-                        compare_read(library, tally, &changed, edition)?;
-                    }
+                    compare_read_at_known(library, tally, &changed)?;
                 }
             }
         }
@@ -49,16 +54,21 @@ pub fn pairs(library: &Library, tally: &mut Tally) -> Flow {
     Flow::Continue(())
 }
 
-/// Each two bytes at random numbers, at all editions.
+/// Each two bytes at random numbers, at all editions that are known, and once at all
+/// editions.
 pub fn random_pairs(library: &Library, tally: &mut Tally) -> Flow {
     let mut random = Random::new();
     for card in cards::chosen() {
         for (first, second) in places() {
-            for _ in 0..RANDOM_CHANGES {
+            for change in 0..RANDOM_CHANGES {
                 let mut changed = card;
                 changed[first] = random.next() as u8;
                 changed[second] = random.next() as u8;
-                compare_read_at_all(library, tally, &changed)?;
+                if change == 0 {
+                    compare_read_at_all(library, tally, &changed)?;
+                } else {
+                    compare_read_at_known(library, tally, &changed)?;
+                }
             }
         }
     }

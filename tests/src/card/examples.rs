@@ -48,83 +48,252 @@ const WIDE: (Facts, Card) = (
     ],
 );
 
-/// A card with some bytes changed and what a reading at editions 1 and 2 must
-/// answer: an access or a refusal.
+/// An early capture in the older full range, 8 bits, open: only edition 3 reads it.
+const EARLY: (Facts, Card) = (
+    Facts {
+        layout: [2, 2, 3, 8, 3, 0, 8, 16],
+        width: 720,
+        height: 576,
+        item: 12,
+        access: 2,
+    },
+    [
+        3, 3, // least edition, written at
+        2, 2, 3, 8, 3, 0, // model, primaries, range, depth, bytes a point
+        0, 8, 16, 0, // offsets
+        0xd0, 2, 0x40, 2, // width, height
+        12, 0, 0, 0, 0, 0, 0, 0, // item
+        2, 0, 0, 0, 0, 0, 0, 0, // access
+    ],
+);
+
+/// The same of 12 bits, closed.
+const EARLY_WIDE: (Facts, Card) = (
+    Facts {
+        layout: [2, 4, 3, 12, 5, 0, 12, 24],
+        width: 1,
+        height: 4096,
+        item: 13,
+        access: 0,
+    },
+    [
+        3, 3, // least edition, written at
+        2, 4, 3, 12, 5, 0, // model, primaries, range, depth, bytes a point
+        0, 12, 24, 0, // offsets
+        1, 0, 0, 0x10, // width, height
+        13, 0, 0, 0, 0, 0, 0, 0, // item
+        0, 0, 0, 0, 0, 0, 0, 0, // access
+    ],
+);
+
+/// What a reading answers: an access or a refusal.
+type Answer = Result<u8, i64>;
+
+/// A card with some bytes changed and what a reading at editions 1, 2 and 3 must
+/// answer.
 struct Changed {
     name: &'static str,
     card: Card,
     /// Places and what they hold now.
     bytes: &'static [(usize, u8)],
-    at_1: Result<u8, i64>,
-    at_2: Result<u8, i64>,
+    answers: [Answer; 3],
 }
 
 const fn changed(
     name: &'static str,
     (_, card): (Facts, Card),
     bytes: &'static [(usize, u8)],
-    at_1: Result<u8, i64>,
-    at_2: Result<u8, i64>,
+    answers: [Answer; 3],
 ) -> Changed {
     Changed {
         name,
         card,
         bytes,
-        at_1,
-        at_2,
+        answers,
     }
 }
 
+const REFUSED_8: Answer = Err(-8);
+const REFUSED_9: Answer = Err(-9);
+const REFUSED_10: Answer = Err(-10);
+
+/// At all three editions.
+const ALL_9: [Answer; 3] = [REFUSED_9; 3];
+
 const CHANGED: &[Changed] = &[
-    changed("item 7", ITEM_7, &[], Ok(0), Ok(2)),
-    changed("12 bits", WIDE, &[], Err(-8), Ok(1)),
-    // Bytes 0 and 1.
-    changed("byte 0 is 0", ITEM_7, &[(0, 0)], Err(-9), Err(-9)),
-    changed("byte 0 too high", ITEM_7, &[(0, 2)], Err(-8), Err(-9)),
-    changed("byte 0 is 3", ITEM_7, &[(0, 3), (1, 3)], Err(-8), Err(-8)),
-    changed("byte 0 too low", WIDE, &[(0, 1)], Err(-9), Err(-9)),
-    changed("written at 0", ITEM_7, &[(1, 0)], Err(-9), Err(-9)),
-    changed("written at 1, open", ITEM_7, &[(1, 1)], Err(-9), Err(-9)),
+    changed("item 7", ITEM_7, &[], [Ok(0), Ok(2), Ok(2)]),
+    changed("12 bits", WIDE, &[], [REFUSED_8, Ok(1), Ok(1)]),
+    changed("early", EARLY, &[], [REFUSED_8, REFUSED_8, Ok(2)]),
     changed(
-        "written at 1, access 3",
-        ITEM_7,
-        &[(1, 1), (24, 3)],
-        Err(-9),
-        Err(-9),
+        "early, wide",
+        EARLY_WIDE,
+        &[],
+        [REFUSED_8, REFUSED_8, Ok(0)],
     ),
-    changed("written at 1", ITEM_7, &[(1, 1), (24, 0)], Ok(0), Ok(0)),
-    changed("12 bits written at 1", WIDE, &[(1, 1)], Err(-8), Err(-9)),
+    // Bytes 0 and 1.
+    changed("byte 0 is 0", ITEM_7, &[(0, 0)], ALL_9),
+    changed("byte 0 is 0, early", EARLY, &[(0, 0)], ALL_9),
+    changed(
+        "byte 0 too high",
+        ITEM_7,
+        &[(0, 2)],
+        [REFUSED_8, REFUSED_9, REFUSED_9],
+    ),
+    changed(
+        "byte 0 is 3",
+        ITEM_7,
+        &[(0, 3), (1, 3)],
+        [REFUSED_8, REFUSED_8, REFUSED_9],
+    ),
+    changed("byte 0 is 4", ITEM_7, &[(0, 4), (1, 4)], [REFUSED_8; 3]),
+    changed(
+        "byte 0 is 4, early",
+        EARLY,
+        &[(0, 4), (1, 4)],
+        [REFUSED_8; 3],
+    ),
+    changed("byte 0 too low", WIDE, &[(0, 1)], ALL_9),
+    changed("byte 0 is 1, early", EARLY, &[(0, 1)], ALL_9),
+    changed(
+        "byte 0 is 2, early",
+        EARLY,
+        &[(0, 2)],
+        [REFUSED_8, REFUSED_9, REFUSED_9],
+    ),
+    changed(
+        "byte 0 is 2, early and wide",
+        EARLY_WIDE,
+        &[(0, 2)],
+        [REFUSED_8, REFUSED_9, REFUSED_9],
+    ),
+    changed("written at 0", ITEM_7, &[(1, 0)], ALL_9),
+    changed("written at 1, open", ITEM_7, &[(1, 1)], ALL_9),
+    changed("written at 1, access 3", ITEM_7, &[(1, 1), (24, 3)], ALL_9),
+    changed("written at 1", ITEM_7, &[(1, 1), (24, 0)], [Ok(0); 3]),
+    changed(
+        "12 bits written at 1",
+        WIDE,
+        &[(1, 1)],
+        [REFUSED_8, REFUSED_9, REFUSED_9],
+    ),
+    changed(
+        "early, written at 2",
+        EARLY,
+        &[(1, 2)],
+        [REFUSED_8, REFUSED_8, REFUSED_9],
+    ),
+    // The range decides byte 0 at every depth.
+    changed("range 3 with byte 0 of 1", ITEM_7, &[(4, 3)], ALL_9),
+    changed(
+        "full with byte 0 of 3",
+        EARLY,
+        &[(4, 2)],
+        [REFUSED_8, REFUSED_8, REFUSED_9],
+    ),
+    changed("range 4", ITEM_7, &[(4, 4)], ALL_9),
     // Access.
-    changed("access 3 from 2", ITEM_7, &[(24, 3)], Ok(0), Err(-10)),
-    changed("access 3 from 3", ITEM_7, &[(1, 3), (24, 3)], Ok(0), Ok(0)),
-    changed("open from 3", ITEM_7, &[(1, 3)], Ok(0), Ok(2)),
-    changed("byte 25 from 2", ITEM_7, &[(25, 1)], Ok(0), Err(-9)),
-    changed("byte 31 from 3", ITEM_7, &[(1, 3), (31, 1)], Ok(0), Ok(2)),
+    changed(
+        "access 3 from 2",
+        ITEM_7,
+        &[(24, 3)],
+        [Ok(0), REFUSED_10, REFUSED_10],
+    ),
+    changed(
+        "access 3 from 3",
+        ITEM_7,
+        &[(1, 3), (24, 3)],
+        [Ok(0), Ok(0), REFUSED_10],
+    ),
+    changed(
+        "access 3 from 4",
+        ITEM_7,
+        &[(1, 4), (24, 3)],
+        [Ok(0), Ok(0), Ok(0)],
+    ),
+    changed(
+        "access 3, early",
+        EARLY,
+        &[(24, 3)],
+        [REFUSED_8, REFUSED_8, REFUSED_10],
+    ),
+    changed("open from 3", ITEM_7, &[(1, 3)], [Ok(0), Ok(2), Ok(2)]),
+    changed("open from 4", ITEM_7, &[(1, 4)], [Ok(0), Ok(2), Ok(2)]),
+    changed(
+        "byte 25 from 2",
+        ITEM_7,
+        &[(25, 1)],
+        [Ok(0), REFUSED_9, REFUSED_9],
+    ),
+    changed(
+        "byte 31 from 3",
+        ITEM_7,
+        &[(1, 3), (31, 1)],
+        [Ok(0), Ok(2), REFUSED_9],
+    ),
+    changed(
+        "byte 31 from 4",
+        ITEM_7,
+        &[(1, 4), (31, 1)],
+        [Ok(0), Ok(2), Ok(2)],
+    ),
     // Fields, and refusals that compete.
-    changed("byte 7", ITEM_7, &[(7, 1)], Err(-9), Err(-9)),
-    changed("byte 11", ITEM_7, &[(11, 1)], Err(-9), Err(-9)),
-    changed("fields overlap", ITEM_7, &[(9, 7)], Err(-9), Err(-9)),
-    changed("width 4,097", WIDE, &[(12, 1)], Err(-8), Err(-9)),
-    changed("height 0", WIDE, &[(14, 0)], Err(-8), Err(-9)),
-    changed("item 0", ITEM_7, &[(16, 0)], Err(-9), Err(-9)),
-    changed("both 8 and 9", WIDE, &[(7, 1)], Err(-8), Err(-9)),
-    changed("9, 10", ITEM_7, &[(7, 1), (24, 3)], Err(-9), Err(-9)),
-    changed("10, 9", ITEM_7, &[(24, 3), (25, 1)], Ok(0), Err(-10)),
+    changed("byte 7", ITEM_7, &[(7, 1)], ALL_9),
+    changed("byte 11", ITEM_7, &[(11, 1)], ALL_9),
+    changed("fields overlap", ITEM_7, &[(9, 7)], ALL_9),
+    changed(
+        "width 4,097",
+        WIDE,
+        &[(12, 1)],
+        [REFUSED_8, REFUSED_9, REFUSED_9],
+    ),
+    changed(
+        "height 0",
+        WIDE,
+        &[(14, 0)],
+        [REFUSED_8, REFUSED_9, REFUSED_9],
+    ),
+    changed("item 0", ITEM_7, &[(16, 0)], ALL_9),
+    changed(
+        "both 8 and 9",
+        WIDE,
+        &[(7, 1)],
+        [REFUSED_8, REFUSED_9, REFUSED_9],
+    ),
+    changed(
+        "both 8 and 9, early",
+        EARLY,
+        &[(7, 1)],
+        [REFUSED_8, REFUSED_8, REFUSED_9],
+    ),
+    changed("9, 10", ITEM_7, &[(7, 1), (24, 3)], ALL_9),
+    changed(
+        "10, 9",
+        ITEM_7,
+        &[(24, 3), (25, 1)],
+        [Ok(0), REFUSED_10, REFUSED_10],
+    ),
 ];
 
 pub fn written_out(library: &Library, tally: &mut Tally) -> Flow {
     for (program, library) in [("library", library), ("reference", &REFERENCE)] {
-        for (facts, card) in [ITEM_7, WIDE] {
-            let written = Outcome::of(SIZE, |out| (library.card_write)(2, facts, out));
+        for (facts, card) in [ITEM_7, WIDE, EARLY, EARLY_WIDE] {
+            let [least, edition, ..] = card;
+            let written = Outcome::of(SIZE, |out| (library.card_write)(edition, facts, out));
             tally.compare(
                 written.answer == 0 && written.output.elements() == card,
                 || format!("{program}: {facts:?} is written otherwise"),
             )?;
-            let refused = Outcome::of(SIZE, |out| (library.card_write)(1, facts, out)).answer;
-            tally.compare(refused == -11, || {
-                format!("{program}: {facts:?} is written at 1: answer {refused}")
-            })?;
-            let reading = Reading::of(library.card_read, &card, 2);
+            // Edition 1 lacks the access, or the layout; 2 lacks the layout.
+            for earlier in 1..least.max(2) {
+                let refused = Outcome::of(SIZE, |out| (library.card_write)(earlier, facts, out));
+                tally.compare(refused.answer == -11, || {
+                    format!(
+                        "{program}: {facts:?} is written at {earlier}: {}",
+                        refused.answer
+                    )
+                })?;
+            }
+            let reading = Reading::of(library.card_read, &card, edition);
             let layout = reading.told.layout.elements();
             tally.compare(reading.answer == 0 && layout == facts.layout, || {
                 format!("{program}: the card of {facts:?} is read otherwise")
@@ -134,6 +303,7 @@ pub fn written_out(library: &Library, tally: &mut Tally) -> Flow {
             agrees(library, tally, program, changed)?;
         }
         rewritten_at_1(library, tally, program)?;
+        rewritten_at_3(library, tally, program)?;
     }
     Flow::Continue(())
 }
@@ -143,7 +313,7 @@ fn agrees(library: &Library, tally: &mut Tally, program: &str, changed: &Changed
     for &(place, byte) in changed.bytes {
         card[place] = byte;
     }
-    for (edition, must_be) in [(1, changed.at_1), (2, changed.at_2)] {
+    for (edition, must_be) in (1..).zip(changed.answers) {
         let reading = Reading::of(library.card_read, &card, edition);
         let same = match must_be {
             Ok(access) => {
@@ -173,10 +343,27 @@ fn rewritten_at_1(library: &Library, tally: &mut Tally, program: &str) -> Flow {
     tally.compare(rewritten == closed, || {
         format!("{program}: rewritten at 1 to {rewritten:?}")
     })?;
-    closed[1] = 2;
-    let rewriting = Rewriting::of(library.card_rewrite, rewritten, 2, SIZE);
-    let rewritten = rewriting.outcome.output.elements();
-    tally.compare(rewritten == closed, || {
-        format!("{program}: rewritten at 1 and at 2 to {rewritten:?}")
-    })
+    for edition in [2, 3] {
+        closed[1] = edition;
+        let rewriting = Rewriting::of(library.card_rewrite, rewritten, edition, SIZE);
+        let again = rewriting.outcome.output.elements();
+        tally.compare(again == closed, || {
+            format!("{program}: rewritten at 1 and at {edition} to {again:?}")
+        })?;
+    }
+    Flow::Continue(())
+}
+
+/// Edition 3 keeps the access of a card from 2, and 2 that of a card from 3.
+fn rewritten_at_3(library: &Library, tally: &mut Tally, program: &str) -> Flow {
+    let (_, mut card) = ITEM_7;
+    for edition in [3, 2, 3] {
+        let rewriting = Rewriting::of(library.card_rewrite, &card, edition, SIZE);
+        let rewritten = rewriting.outcome.output.elements();
+        card[1] = edition;
+        tally.compare(rewritten == card, || {
+            format!("{program}: rewritten at {edition} to {rewritten:?}")
+        })?;
+    }
+    Flow::Continue(())
 }

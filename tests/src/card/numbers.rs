@@ -5,7 +5,7 @@ use reference::card::Facts;
 use crate::library::Library;
 use crate::tally::{Flow, Tally};
 
-use super::cards::{self, DEPTHS};
+use super::cards;
 use super::{compare_read, compare_write, Card, ITEM, KNOWN_EDITIONS, SIZE};
 
 const WIDTH: usize = 12;
@@ -34,8 +34,8 @@ pub fn sides(library: &Library, tally: &mut Tally) -> Flow {
 
 /// Items of one byte and of all bits but one; every access number at every edition.
 pub fn items_and_access(library: &Library, tally: &mut Tally) -> Flow {
-    for depth in DEPTHS {
-        let facts = cards::facts(depth);
+    for layout in cards::layouts() {
+        let facts = cards::facts_in_turn(layout, 0);
         let card = cards::card(facts);
         for item in items() {
             let card = holding(card, ITEM, &item.to_le_bytes());

@@ -1,21 +1,25 @@
 //! Readings and rewritings that are refused: by length, and where several
 //! refusals compete.
 
-use crate::library::Library;
+use crate::library::{Layout, Library};
 use crate::tally::{Flow, Tally};
 
-use super::cards::{self, DEPTHS};
+use super::cards;
 use super::{compare_read, compare_read_at_all, compare_rewrite, Card, ACCESS, LEAST, ROOMS, SIZE};
 
-const EDITIONS: [u8; 5] = [1, 2, 0, 3, 255];
+const EDITIONS: [u8; 7] = [1, 2, 3, 0, 4, 5, 255];
 
 /// Changes of bytes 2 to 23, with none first. Together they reach every field.
-const FIELDS: [&[(usize, u8)]; 18] = [
+const FIELDS: [&[(usize, u8)]; 21] = [
     &[],
     &[(2, 0)],
     &[(2, 3)],
     &[(3, 0)],
     &[(3, 5)],
+    &[(4, 0)],
+    &[(4, 4)],
+    // Another range, which may need another byte 0.
+    &[(4, 2)],
     &[(4, 3)],
     &[(5, 9)],
     &[(5, 16)],
@@ -46,7 +50,7 @@ const FIELDS: [&[(usize, u8)]; 18] = [
 /// that other refusals speak of.
 pub fn lengths(library: &Library, tally: &mut Tally) -> Flow {
     for card in cards::chosen() {
-        for least in [card[LEAST], 0, 3] {
+        for least in [card[LEAST], 0, 4] {
             let mut cards = [card; 3].concat();
             cards[LEAST] = least;
             for length in 0..=cards.len() {
@@ -72,11 +76,15 @@ pub fn lengths(library: &Library, tally: &mut Tally) -> Flow {
 /// byte after it, each right or wrong; rewritings into rooms that take turns.
 pub fn competing(library: &Library, tally: &mut Tally) -> Flow {
     let mut rooms = ROOMS.into_iter().cycle();
-    for card in DEPTHS.into_iter().flat_map(stated) {
-        for length in [SIZE, SIZE - 1, SIZE + 1] {
+    for card in cards::layouts().into_iter().flat_map(stated) {
+        for (length, editions) in [
+            (SIZE, &EDITIONS[..]),
+            (SIZE - 1, &[3, 4]),
+            (SIZE + 1, &[0, 2]),
+        ] {
             let mut card = card.to_vec();
             card.resize(length, 0);
-            for edition in EDITIONS {
+            for &edition in editions {
                 compare_read(library, tally, &card, edition)?;
                 let room = rooms.next().expect("rooms without end");
                 compare_rewrite(library, tally, &card, edition, room)?;
@@ -86,16 +94,17 @@ pub fn competing(library: &Library, tally: &mut Tally) -> Flow {
     Flow::Continue(())
 }
 
-/// The cards of a depth that have bytes 0 and 1, a field, an access and a byte after
+/// The cards of a layout that have bytes 0 and 1, a field, an access and a byte after
 /// it right or wrong.
-fn stated(depth: u8) -> Vec<Card> {
+fn stated(layout: Layout) -> Vec<Card> {
     let mut stated = Vec::new();
-    for least in [1, 2, 0, 3, 255] {
-        for written in [2, 1, 0, 3, 255] {
+    for least in [1, 2, 3, 0, 4, 255] {
+        for written in [2, 1, 0, 3, 4, 255] {
             for field in FIELDS {
-                for access in [0, 2, 3, 255] {
+                for access in [0, 2, 3] {
                     for after in [None, Some(ACCESS + 1), Some(SIZE - 1)] {
-                        let mut card = cards::written_at(written, cards::facts(depth));
+                        let facts = cards::facts_in_turn(layout, 0);
+                        let mut card = cards::written_at(written, facts);
                         card[LEAST] = least;
                         card[ACCESS] = access;
                         for &(place, byte) in field {

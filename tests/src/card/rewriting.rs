@@ -7,7 +7,7 @@ use crate::library::Library;
 use crate::random::Random;
 use crate::tally::{Flow, Tally};
 
-use super::cards::{self, DEPTHS};
+use super::cards;
 use super::{
     compare_read, compare_rewrite, unknown_editions, Card, Rewriting, ACCESS, KNOWN_EDITIONS,
     LEAST, ROOMS, SIZE,
@@ -49,16 +49,17 @@ pub fn rooms(library: &Library, tally: &mut Tally) -> Flow {
 pub fn lists(library: &Library, tally: &mut Tally) -> Flow {
     let mut random = Random::new();
     for turn in 0..LISTS {
-        let depth = DEPTHS[turn % 3];
+        let layouts = cards::layouts();
         let facts = Facts {
-            access: (turn / 3 % 3) as u8,
-            ..cards::facts_in_turn(cards::layout(depth), turn)
+            access: (turn / layouts.len() % 3) as u8,
+            ..cards::facts_in_turn(layouts[turn % layouts.len()], turn)
         };
-        let written = Outcome::of(SIZE, |out| (library.card_write)(2, facts, out));
+        let first = cards::least(facts.layout).max(2);
+        let written = Outcome::of(SIZE, |out| (library.card_write)(first, facts, out));
         let mut card = written.output.elements().to_vec();
         let mut access = facts.access;
         for _ in 0..random.below(8) {
-            let edition = [2, 2, 1, 2, 0, 3][random.below(6)];
+            let edition = [2, 2, 3, 3, 3, 1, 0, 4][random.below(8)];
             let room = ROOMS[random.below(12).saturating_sub(7)];
             compare_rewrite(library, tally, &card, edition, room)?;
             let rewriting = Rewriting::of(library.card_rewrite, &card, edition, room);
@@ -71,8 +72,8 @@ pub fn lists(library: &Library, tally: &mut Tally) -> Flow {
             compare_read(library, tally, &card, edition)?;
         }
         let last = Facts { access, ..facts };
-        let same =
-            card[LEAST] == cards::card(facts)[LEAST] && reference::card::read(&card, 2) == Ok(last);
+        let same = card[LEAST] == cards::least(facts.layout)
+            && reference::card::read(&card, 3) == Ok(last);
         tally.compare(same, || {
             format!("rewrites of {facts:?}: {card:?}, must tell {last:?}")
         })?;

@@ -4,10 +4,10 @@
 use reference::card::Facts;
 
 use crate::layouts;
-use crate::library::Library;
+use crate::library::{Layout, Library};
 use crate::tally::{Flow, Tally};
 
-use super::cards::{self, DEPTHS};
+use super::cards;
 use super::{
     compare_read, compare_rewrite, compare_write, unknown_editions, KNOWN_EDITIONS, ROOMS, SIZE,
 };
@@ -15,10 +15,11 @@ use super::{
 /// Every edition and room with every kind of fact, right or wrong, in all
 /// combinations of a layout, a size, an item and an access.
 pub fn competing(library: &Library, tally: &mut Tally) -> Flow {
-    let combinations: Vec<Facts> = DEPTHS.into_iter().flat_map(combinations).collect();
+    let layouts = cards::layouts().into_iter();
+    let combinations: Vec<Facts> = layouts.flat_map(combinations).collect();
     for &facts in &combinations {
         for room in ROOMS {
-            for edition in [0, 1, 2, 3, 255] {
+            for edition in [0, 1, 2, 3, 4, 5, 255] {
                 compare_write(library, tally, edition, facts, room)?;
             }
         }
@@ -30,10 +31,11 @@ pub fn competing(library: &Library, tally: &mut Tally) -> Flow {
         }
     }
     // Every length of room up to two cards and more.
-    for depth in DEPTHS {
+    for layout in cards::layouts() {
         for room in 0..=3 * SIZE {
             for edition in KNOWN_EDITIONS {
-                compare_write(library, tally, edition, cards::facts(depth), room)?;
+                let facts = cards::facts_in_turn(layout, room);
+                compare_write(library, tally, edition, facts, room)?;
             }
         }
     }
@@ -44,7 +46,7 @@ pub fn competing(library: &Library, tally: &mut Tally) -> Flow {
     Flow::Continue(())
 }
 
-/// Every number of a layout takes all its values, at both editions.
+/// Every number of a layout takes all its values, at every edition.
 pub fn layouts_outside(library: &Library, tally: &mut Tally) -> Flow {
     for (turn, layout) in layouts::one_of_each_size().enumerate() {
         for changed in layouts::changed(layout) {
@@ -70,7 +72,7 @@ pub fn every_layout(library: &Library, tally: &mut Tally) -> Flow {
             access: (turn % 3) as u8,
             ..cards::facts_in_turn(layout, turn)
         };
-        let edition = KNOWN_EDITIONS[turn / 3 % 2];
+        let edition = KNOWN_EDITIONS[turn / 3 % KNOWN_EDITIONS.len()];
         compare_write(library, tally, edition, facts, SIZE)?;
         let card = cards::card(facts);
         compare_read(library, tally, &card, edition)?;
@@ -79,14 +81,15 @@ pub fn every_layout(library: &Library, tally: &mut Tally) -> Flow {
     Flow::Continue(())
 }
 
-fn combinations(depth: u8) -> Vec<Facts> {
-    let layout = cards::layout(depth);
+fn combinations(layout: Layout) -> Vec<Facts> {
     let mut unknown_model = layout;
     unknown_model[0] = 3;
+    let mut unknown_range = layout;
+    unknown_range[2] = 4;
     let mut overlapping = layout;
     overlapping[6] = overlapping[5];
     let mut combinations = Vec::new();
-    for layout in [layout, unknown_model, overlapping] {
+    for layout in [layout, unknown_model, unknown_range, overlapping] {
         for [width, height] in [[720, 576], [0, 576], [720, 0], [4097, 4096], [4096, 4097]] {
             for item in [1, 0] {
                 for access in [0, 1, 2, 3, 255] {

@@ -1,4 +1,5 @@
-//! The paper's marked examples M11 and M12, and points worked out by hand. The
+//! The paper's marked examples M11 and M12, and points worked out by hand, in the
+//! older full range too. The
 //! library and the reference are both compared with them.
 
 use crate::guarded::{Guarded, Outcome};
@@ -32,7 +33,7 @@ const fn example(
     }
 }
 
-const MARKED: [Example; 12] = [
+const MARKED: [Example; 21] = [
     example("M11", RgbToYcbcr, [1, 8, 2, 2], [255, 0, 0], [54, 99, 255]),
     example("M12", YcbcrToRgb, [1, 8, 2, 2], [54, 99, 255], [254, 0, 0]),
     // Cb of blue and Cr of red are 1/2, of yellow and cyan -1/2: the ends of narrow
@@ -112,6 +113,77 @@ const MARKED: [Example; 12] = [
         [2, 12, 2, 2],
         [1000, 2048, 2048],
         [1000; 3],
+    ),
+    // The older full range: 256 * 0.2126 = 54.4256; Cb = -0.2126/1.8556 and
+    // 256 (Cb + 1/2) = 98.6695; Cr is 1/2, which is 256, clamped.
+    example(
+        "older red of full",
+        RgbToYcbcr,
+        [1, 8, 2, 3],
+        [255, 0, 0],
+        [54, 99, 255],
+    ),
+    // Of 255/256: 255 * 0.2126 = 54.2130; 128 - 255 * 0.2126/1.8556 = 98.7841;
+    // 128 + 127.5 = 255.5, rounded up and clamped.
+    example(
+        "older red",
+        RgbToYcbcr,
+        [1, 8, 3, 3],
+        [255, 0, 0],
+        [54, 99, 255],
+    ),
+    // 128 - 127.5 = 1/2, rounded up.
+    example(
+        "older cyan",
+        RgbToYcbcr,
+        [1, 8, 3, 3],
+        [0, 255, 255],
+        [201, 157, 1],
+    ),
+    // In full range: 255 * 255/256 = 254.0039.
+    example(
+        "older white to full",
+        YcbcrToRgb,
+        [2, 8, 3, 2],
+        [255, 128, 128],
+        [254; 3],
+    ),
+    // 1023/1024 of narrow range: 64 + 876 * 1023/1024 = 939.1445.
+    example(
+        "older white to narrow",
+        RgbToYcbcr,
+        [4, 10, 3, 1],
+        [1023; 3],
+        [939, 512, 512],
+    ),
+    example(
+        "white to older",
+        YcbcrToRgb,
+        [4, 12, 1, 3],
+        [3760, 2048, 2048],
+        [4092; 3],
+    ),
+    example(
+        "full white to older",
+        RgbToYcbcr,
+        [4, 12, 2, 3],
+        [4095; 3],
+        [4092, 2048, 2048],
+    ),
+    // Codes above the top are worth what the formula says: 4095 * 4095/4096 = 4094.0002.
+    example(
+        "older 4095 to full",
+        YcbcrToRgb,
+        [1, 12, 3, 2],
+        [4095, 2048, 2048],
+        [4094; 3],
+    ),
+    example(
+        "older 4094 and back",
+        RgbToYcbcr,
+        [3, 12, 3, 3],
+        [4094; 3],
+        [4092, 2048, 2048],
     ),
 ];
 

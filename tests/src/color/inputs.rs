@@ -8,10 +8,21 @@ pub fn greatest_code(depth: u8) -> u16 {
 
 /// All threes of these numbers.
 pub fn triples(numbers: &[u16]) -> Vec<u16> {
+    all_of([numbers; 3])
+}
+
+/// All threes of 8-bit codes in these steps.
+pub fn grid(steps: [usize; 3]) -> Vec<u16> {
+    let [first, second, third] = steps.map(|step| (0..=255).step_by(step).collect::<Vec<u16>>());
+    all_of([&first, &second, &third])
+}
+
+/// All threes of a first, a second and a third number.
+fn all_of([firsts, seconds, thirds]: [&[u16]; 3]) -> Vec<u16> {
     let mut codes = Vec::new();
-    for &first in numbers {
-        for &second in numbers {
-            for &third in numbers {
+    for &first in firsts {
+        for &second in seconds {
+            for &third in thirds {
                 codes.extend([first, second, third]);
             }
         }
@@ -20,7 +31,7 @@ pub fn triples(numbers: &[u16]) -> Vec<u16> {
 }
 
 /// The ends of the codes, the ends of narrow range, the base of differences, and
-/// neighbours of these.
+/// neighbours of these; at 12 bits the top of the older full range too.
 pub fn corners(depth: u8) -> Vec<u16> {
     let s = 1 << (depth - 8);
     let middle = 128 * s;
@@ -34,6 +45,8 @@ pub fn corners(depth: u8) -> Vec<u16> {
         middle + 1,
         235 * s,
         240 * s,
+        top - 3,
+        top - 2,
         top - 1,
         top,
     ];

@@ -7,7 +7,8 @@ use crate::tally::{Flow, Tally};
 use super::{compare, conversions, inputs, DEPTH, DEPTHS, MOST_POINTS};
 
 pub fn short_lines(library: &Library, tally: &mut Tally) -> Flow {
-    for conversion in DEPTHS.into_iter().flat_map(conversions) {
+    // Five shares no factor with the 72 of a depth.
+    for conversion in DEPTHS.into_iter().flat_map(conversions).step_by(5) {
         for points in [0, 1, 2, 3, 7, 8] {
             compare_around(library, tally, conversion, points)?;
         }
@@ -16,9 +17,7 @@ pub fn short_lines(library: &Library, tally: &mut Tally) -> Flow {
 }
 
 pub fn long_lines(library: &Library, tally: &mut Tally) -> Flow {
-    // Seven shares no factor with the 32 of a depth, so rows, ranges and directions
-    // all have a turn.
-    for conversion in DEPTHS.into_iter().flat_map(conversions).step_by(7) {
+    for conversion in some_conversions() {
         compare_around(library, tally, conversion, MOST_POINTS)?;
     }
     Flow::Continue(())
@@ -28,7 +27,7 @@ pub fn long_lines(library: &Library, tally: &mut Tally) -> Flow {
 /// would take 65,537 points for one.
 pub fn too_many_points(library: &Library, tally: &mut Tally) -> Flow {
     const CUT_TO_ONE: usize = 65_537;
-    for conversion in DEPTHS.into_iter().flat_map(conversions).step_by(7) {
+    for conversion in some_conversions() {
         let codes = random_codes(conversion, CUT_TO_ONE);
         for points in [MOST_POINTS + 1, 2 * MOST_POINTS, 65_536, CUT_TO_ONE] {
             compare_lengths(library, tally, conversion, &codes[..3 * points], 3 * points)?;
@@ -38,6 +37,12 @@ pub fn too_many_points(library: &Library, tally: &mut Tally) -> Flow {
         compare_lengths(library, tally, conversion, &codes[..3], 3 * CUT_TO_ONE)?;
     }
     Flow::Continue(())
+}
+
+/// Seventeen shares no factor with the 72 of a depth, so rows, ranges and directions
+/// all have a turn.
+fn some_conversions() -> impl Iterator<Item = (Direction, Conversion)> {
+    DEPTHS.into_iter().flat_map(conversions).step_by(17)
 }
 
 /// Lengths from a point less to a point more, which fit together or not. Among

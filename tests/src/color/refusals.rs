@@ -19,7 +19,7 @@ pub fn codes(library: &Library, tally: &mut Tally) -> Flow {
             .chain(higher_bits)
             .collect();
         for (turn, (direction, conversion)) in conversions(depth).enumerate() {
-            let longest = turn.is_multiple_of(7).then_some(MOST_POINTS);
+            let longest = turn.is_multiple_of(17).then_some(MOST_POINTS);
             for points in [1, 2, 5].into_iter().chain(longest) {
                 let mut codes = inputs::random(depth, points, &mut random);
                 for place in places(points) {
@@ -36,9 +36,10 @@ pub fn codes(library: &Library, tally: &mut Tally) -> Flow {
     Flow::Continue(())
 }
 
-/// Each number in turn takes all its 256 values, from every conversion.
+/// Each number in turn takes all its 256 values, from every fifth conversion: five
+/// shares no factor with the 72 of a depth.
 pub fn single(library: &Library, tally: &mut Tally) -> Flow {
-    for (direction, conversion) in DEPTHS.into_iter().flat_map(conversions) {
+    for (direction, conversion) in DEPTHS.into_iter().flat_map(conversions).step_by(5) {
         for place in 0..conversion.len() {
             for number in 0..=u8::MAX {
                 let mut changed = conversion;
@@ -54,7 +55,7 @@ pub fn single(library: &Library, tally: &mut Tally) -> Flow {
 pub fn pairs(library: &Library, tally: &mut Tally) -> Flow {
     let codes = [200, 100, 50];
     for direction in DIRECTIONS {
-        let conversion: Conversion = [4, 10, 1, 2];
+        let conversion: Conversion = [4, 10, 1, 3];
         for first in 0..conversion.len() {
             for second in first + 1..conversion.len() {
                 for numbers in 0..=u16::MAX {

@@ -1,18 +1,21 @@
 //! Which codes become which: corners, greys, random codes, and a grid.
 
 use crate::guarded::{Guarded, Outcome};
+use crate::layouts::{LEGACY, RANGES};
 use crate::library::{Conversion, Direction, Library};
 use crate::random::Random;
 use crate::tally::{Flow, Tally};
 
-use super::inputs::{self, triples};
-use super::{compare_all, conversions, DEPTHS, DIRECTIONS, MOST_POINTS, PRIMARIES, RANGES};
+use super::inputs::{self, grid, triples};
+use super::{compare_all, conversions, DEPTHS, DIRECTIONS, MOST_POINTS, PRIMARIES};
 
-/// The step of the grid. It divides 255, so that both ends are on the grid.
+/// The steps of the grid, of which each channel has the longer one in its turn. They
+/// divide 255, so that both ends are on the grid.
 const STEP: usize = 5;
+const LONG_STEP: usize = 15;
 
 /// Lines of random codes for each conversion.
-const RANDOM_LINES: usize = 4;
+const RANDOM_LINES: usize = 2;
 
 pub fn corners(library: &Library, tally: &mut Tally) -> Flow {
     for depth in DEPTHS {
@@ -25,7 +28,8 @@ pub fn corners(library: &Library, tally: &mut Tally) -> Flow {
 }
 
 /// Three equal R'G'B' codes are the same Y' code with both differences at their
-/// base, and back, if the range stays.
+/// base, and back, if the range stays; but the three codes that the older full
+/// range never makes become its top.
 pub fn greys(library: &Library, tally: &mut Tally) -> Flow {
     for depth in DEPTHS {
         let base = 1 << (depth - 1);
@@ -35,8 +39,12 @@ pub fn greys(library: &Library, tally: &mut Tally) -> Flow {
                 for range in RANGES {
                     let conversion = [primaries, depth, range, range];
                     let [there, back] = DIRECTIONS;
-                    becomes(library, tally, there, conversion, rgb, ycbcr)?;
-                    becomes(library, tally, back, conversion, ycbcr, rgb)?;
+                    let made = match (range, depth, code) {
+                        (LEGACY, 12, 4093..) => 4092,
+                        _ => code,
+                    };
+                    becomes(library, tally, there, conversion, rgb, [made, base, base])?;
+                    becomes(library, tally, back, conversion, ycbcr, [made; 3])?;
                 }
             }
         }
@@ -74,11 +82,15 @@ pub fn random(library: &Library, tally: &mut Tally) -> Flow {
     Flow::Continue(())
 }
 
-pub fn grid(library: &Library, tally: &mut Tally) -> Flow {
-    let numbers: Vec<u16> = (0..=255).step_by(STEP).collect();
-    let codes = triples(&numbers);
-    for conversion in conversions(8) {
-        compare_all(library, tally, conversion, &codes)?;
+pub fn in_steps(library: &Library, tally: &mut Tally) -> Flow {
+    let grids = [0, 1, 2].map(|channel| {
+        let mut steps = [STEP; 3];
+        steps[channel] = LONG_STEP;
+        grid(steps)
+    });
+    // In both directions each pair of ranges meets all of them, with a row each.
+    for (turn, conversion) in conversions(8).enumerate() {
+        compare_all(library, tally, conversion, &grids[(turn + turn / 18) % 3])?;
     }
     Flow::Continue(())
 }

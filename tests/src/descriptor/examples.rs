@@ -34,6 +34,19 @@ const YCBCR: (Layout, Descriptor) = (
     ],
 );
 
+/// Y'CbCr in the older full range, 10 bits, Cr lowest: 0 to 1024 for all.
+const OLDER: (Layout, Descriptor) = (
+    [2, 2, 3, 10, 5, 30, 20, 0],
+    [
+        76, 0, 0, 0, 0, 0, 0, 0, 1, 0, 72, 0, // header
+        2, 2, 3, 0, // model, primaries, transfer, flags
+        0, 0, 0, 0, 5, 0, 0, 0, 0, 0, 0, 0, // dimensions, planes
+        0, 0, 9, 2, 0, 0, 0, 0, 0, 0, 0, 0, 0, 4, 0, 0, // Cr
+        20, 0, 9, 1, 0, 0, 0, 0, 0, 0, 0, 0, 0, 4, 0, 0, // Cb
+        30, 0, 9, 0, 0, 0, 0, 0, 0, 0, 0, 0, 0, 4, 0, 0, // Y'
+    ],
+);
+
 /// A descriptor with some bytes changed, and what it must answer.
 struct Changed {
     name: &'static str,
@@ -57,7 +70,7 @@ const fn changed(
     }
 }
 
-const CHANGED: [Changed; 14] = [
+const CHANGED: [Changed; 22] = [
     changed("a total size of 77", RGB, &[(0, 77)], -2),
     changed("version 2", RGB, &[(8, 2)], -2),
     changed("model 3", RGB, &[(12, 3)], -3),
@@ -72,11 +85,35 @@ const CHANGED: [Changed; 14] = [
     changed("235s for 240s", YCBCR, &[(40, 0xac)], -6),
     changed("both 5 and 6", RGB, &[(40, 0), (61, 1)], -5),
     changed("both 2 and 5", RGB, &[(61, 1), (11, 1)], -2),
+    // 2^n - 1 is full, 2^n is the older full, and neither is 2^n + 1.
+    changed("1023 in one", OLDER, &[(40, 255), (41, 3)], -6),
+    changed(
+        "1023 in two",
+        OLDER,
+        &[(40, 255), (41, 3), (56, 255), (57, 3)],
+        -6,
+    ),
+    changed(
+        "1023 in all",
+        OLDER,
+        &[(40, 255), (41, 3), (56, 255), (57, 3), (72, 255), (73, 3)],
+        0,
+    ),
+    changed("1025 in all", OLDER, &[(40, 1), (56, 1), (72, 1)], -6),
+    changed("256 of 8 bits", OLDER, &[(41, 1), (57, 1), (73, 1)], -6),
+    changed("from 1 on", OLDER, &[(36, 1), (52, 1), (68, 1)], -6),
+    changed("256 in one", RGB, &[(40, 0), (41, 1)], -6),
+    changed(
+        "256 in all",
+        RGB,
+        &[(40, 0), (41, 1), (56, 0), (57, 1), (72, 0), (73, 1)],
+        0,
+    ),
 ];
 
 pub fn written_out(library: &Library, tally: &mut Tally) -> Flow {
     for (program, library) in [("library", library), ("reference", &REFERENCE)] {
-        for (layout, descriptor) in [RGB, YCBCR] {
+        for (layout, descriptor) in [RGB, YCBCR, OLDER] {
             let mut written = Outcome::of(SIZE, |out| (library.descriptor_write)(layout, out));
             tally.compare(written.output.output() == descriptor, || {
                 format!("{program}: {layout:?} is written otherwise")

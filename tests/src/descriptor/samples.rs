@@ -15,9 +15,45 @@ const LENGTH: usize = 2;
 const CHANNEL: usize = 3;
 const LIMITS: usize = 8;
 
+/// Lower and upper numbers that are stated.
+const LIMITS_STATED: usize = 6;
+
 const RANDOM_SAMPLES: usize = 100;
 
 type Sample = [u8; SAMPLE_SIZE];
+
+/// The numbers around every range's: each lower and upper number one more, one less
+/// and as it is, in one sample, in two or in all three. One less than the older full
+/// range's upper number is the full range's.
+pub fn around_limits(library: &Library, tally: &mut Tally) -> Flow {
+    for layout in layouts::chosen_in_all_colors().step_by(5) {
+        let descriptor = descriptor_of(layout);
+        for changed_samples in 1..8 {
+            for change in 1..9 {
+                let mut changed = descriptor;
+                for index in (0..3).filter(|index| changed_samples >> index & 1 == 1) {
+                    let mut sample = sample(&descriptor, index);
+                    moved(&mut sample[LIMITS..LIMITS + 4], change % 3);
+                    moved(&mut sample[LIMITS + 4..], change / 3);
+                    put(&mut changed, index, sample);
+                }
+                compare_read(library, tally, &changed)?;
+            }
+        }
+    }
+    Flow::Continue(())
+}
+
+/// A number as it is, one more, or one less.
+fn moved(bytes: &mut [u8], change: u32) {
+    let number = u32::from_le_bytes([bytes[0], bytes[1], bytes[2], bytes[3]]);
+    let number = match change {
+        0 => number,
+        1 => number.wrapping_add(1),
+        _ => number.wrapping_sub(1),
+    };
+    bytes.copy_from_slice(&number.to_le_bytes());
+}
 
 /// Each of the three places holds each of the samples: swapped, repeated, left
 /// out. Then the same of the channels and of the offsets alone.
@@ -80,7 +116,7 @@ pub fn random(library: &Library, tally: &mut Tally) -> Flow {
                     sample[CHANNEL] = random.below(4) as u8;
                 }
                 if random.one_in(8) {
-                    let limits = limits(layout[DEPTH])[random.below(4)];
+                    let limits = limits(layout[DEPTH])[random.below(LIMITS_STATED)];
                     sample[LIMITS..].copy_from_slice(&limits);
                 }
                 put(&mut changed, index, sample);
@@ -91,18 +127,16 @@ pub fn random(library: &Library, tally: &mut Tally) -> Flow {
     Flow::Continue(())
 }
 
-/// Each sample states narrow brightness, narrow difference, full, or the range
-/// of 8 bits at another depth.
+/// Each sample states narrow brightness, narrow difference, full, the older full, or
+/// a range of 8 bits at another depth.
 pub fn ranges(library: &Library, tally: &mut Tally) -> Flow {
     for layout in layouts::chosen() {
         let descriptor = descriptor_of(layout);
         let choices = limits(layout[DEPTH]);
-        for choice in 0..64 {
+        for choice in 0..LIMITS_STATED.pow(3) {
             let mut changed = descriptor;
-            for (index, from) in [choice % 4, choice / 4 % 4, choice / 16]
-                .into_iter()
-                .enumerate()
-            {
+            for index in 0..3 {
+                let from = choice / LIMITS_STATED.pow(index as u32) % LIMITS_STATED;
                 let mut sample = sample(&descriptor, index);
                 sample[LIMITS..].copy_from_slice(&choices[from]);
                 put(&mut changed, index, sample);
@@ -114,14 +148,16 @@ pub fn ranges(library: &Library, tally: &mut Tally) -> Flow {
 }
 
 /// Lower and upper numbers as bytes: narrow brightness, narrow difference, full,
-/// and narrow difference of 8 bits.
-fn limits(depth: u8) -> [[u8; 8]; 4] {
+/// the older full, and of 8 bits narrow difference and the older full.
+fn limits(depth: u8) -> [[u8; 8]; LIMITS_STATED] {
     let s = 1 << (depth - 8);
     [
         [16 * s, 235 * s],
         [16 * s, 240 * s],
         [0, (1 << depth) - 1],
+        [0, 1 << depth],
         [16, 240],
+        [0, 256],
     ]
     .map(|[lower, upper]: [u64; 2]| (upper << 32 | lower).to_le_bytes())
 }

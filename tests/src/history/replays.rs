@@ -4,7 +4,7 @@ use reference::card::Facts;
 use reference::history::Book;
 use reference::refusal::Refusal;
 
-use crate::card::cards::{self, DEPTHS};
+use crate::card::cards;
 use crate::card::SIZE;
 use crate::guarded::Guarded;
 use crate::library::history::{Replay, Replaying};
@@ -125,10 +125,13 @@ fn after(replay: Replay, asked: &Replaying) -> (i64, Replaying) {
 
 fn asked(turn: usize, random: &mut Random) -> Replaying {
     let without_1 = random.one_in(2);
+    let layout = cards::layouts()[random.below(6)];
     let first = if random.one_in(16) {
         EDITIONS[random.below(EDITIONS.len())]
+    } else if !without_1 && random.one_in(4) {
+        cards::least(layout)
     } else {
-        2 - u8::from(!without_1 && random.one_in(4))
+        cards::least(layout).max(2 + random.below(2) as u8)
     };
     let access = if first == 1 && !random.one_in(4) {
         0
@@ -137,7 +140,7 @@ fn asked(turn: usize, random: &mut Random) -> Replaying {
     };
     let facts = Facts {
         access,
-        ..cards::facts_in_turn(cards::layout(DEPTHS[random.below(3)]), turn)
+        ..cards::facts_in_turn(layout, turn)
     };
     let rewrites: Vec<(u8, usize)> = (0..random.below(MOST_REWRITES + 1))
         .map(|_| (edition(random, without_1), room(random)))

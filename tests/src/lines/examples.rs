@@ -21,7 +21,7 @@ struct Example {
 /// The float just under 1/8, namely 1/8 - 2^-27.
 const UNDER_AN_EIGHTH: f32 = 0.125 - 1.0 / 134_217_728.0;
 
-const EXAMPLES: [Example; 4] = [
+const EXAMPLES: [Example; 6] = [
     Example {
         name: "M1, M3, M2, a byte each",
         layout: [2, 1, 1, 8, 3, 0, 8, 16],
@@ -59,6 +59,26 @@ const EXAMPLES: [Example; 4] = [
         decoded: [1.0, 0.0, 0.0],
         packed: &[0, 8, 0x80, 0, 0, 0, 0xf0, 0xff],
         unused: &[0, 0, 0, 0xff, 0xff, 0xff, 0x0f, 0],
+    },
+    // 256 * 0.3 = 76.8; 256 (0.1 + 1/2) = 153.6.
+    Example {
+        name: "an early capture, a byte each",
+        layout: [2, 2, 3, 8, 3, 0, 8, 16],
+        values: [0.3, -0.5, 0.1],
+        codes: [77, 0, 154],
+        decoded: [77.0 / 256.0, -0.5, 26.0 / 256.0],
+        packed: &[77, 0, 154],
+        unused: &[0, 0, 0],
+    },
+    // 4092 is 0xffc: 0xffc * 2^24 + 0xffc * 2^12 + 0x001.
+    Example {
+        name: "the older full range's top, the last channel highest",
+        layout: [2, 4, 3, 12, 5, 0, 12, 24],
+        values: [1.0 / 4096.0, 0.5, f32::INFINITY],
+        codes: [1, 4092, 4092],
+        decoded: [1.0 / 4096.0, 2044.0 / 4096.0, 2044.0 / 4096.0],
+        packed: &[0x01, 0xc0, 0xff, 0xfc, 0x0f],
+        unused: &[0, 0, 0, 0, 0xf0],
     },
 ];
 

@@ -2,7 +2,7 @@
 //! at the edge.
 
 use crate::guarded::Outcome;
-use crate::layouts::{self, DEPTH, MODEL, RANGE};
+use crate::layouts::{self, DEPTH, MODEL, RANGE, RANGES};
 use crate::library::{Layout, Library};
 use crate::quantization::floats::{around_codes, around_ties, at_every_exponent};
 use crate::quantization::scale_of;
@@ -29,7 +29,10 @@ const NOT_A_NUMBERS: [u32; 5] = [
 /// lines are packed by the reference.
 pub fn every_code(library: &Library, tally: &mut Tally) -> Flow {
     for layout in layouts::one_of_each_size() {
-        for (model, range) in [(1, 1), (1, 2), (2, 1), (2, 2)] {
+        for (model, range) in RANGES
+            .into_iter()
+            .flat_map(|range| [(1, range), (2, range)])
+        {
             let mut layout = layout;
             layout[MODEL] = model;
             layout[RANGE] = range;
@@ -86,7 +89,7 @@ pub fn infinities(library: &Library, tally: &mut Tally) -> Flow {
 /// exponent, in all three channels.
 pub fn ties_and_exponents(library: &Library, tally: &mut Tally) -> Flow {
     for model in [1, 2] {
-        for range in [1, 2] {
+        for range in RANGES {
             for depth in [8, 10, 12] {
                 let layout = [model, 4, range, depth, 8, 64 - depth, 0, depth + 5];
                 let values = thrice(|channel| [model, range, depth, channel]);

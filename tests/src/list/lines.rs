@@ -3,19 +3,24 @@
 use crate::card::cards;
 use crate::card::{Card, ACCESS, ITEM, SIZE, WRITTEN};
 use crate::library::Library;
-use crate::stack::stacks::{card_of, refused_cards_of};
+use crate::stack::stacks::{card_of, older_card_of, refused_cards_of};
 use crate::stack::MOST_CARDS;
 use crate::tally::{Flow, Tally};
 
 use super::compare_list;
 
-/// Every access number, from editions 1, 2 and later ones, alone and with a byte
-/// after it.
+/// Every access number, from editions 1, 2, 3 and later ones, alone and with a byte
+/// after it, of cards that every edition reads and that only edition 3 does.
 pub fn access(library: &Library, tally: &mut Tally) -> Flow {
-    for written in [1, 2, 3, 255] {
+    for written in [1, 2, 3, 4, 255] {
         for after in [0, 1] {
-            let cards = (0..=u8::MAX).map(|access| {
-                let mut card = card_of(1 + u64::from(access), 0);
+            let cards = (0..=511).map(|number: u16| {
+                let access = number as u8;
+                let item = 1 + u64::from(number);
+                let mut card = match number {
+                    0..=255 => card_of(item, 0),
+                    _ => older_card_of(item, usize::from(access)),
+                };
                 card[WRITTEN] = written;
                 card[ACCESS] = access;
                 card[SIZE - 1] = after;

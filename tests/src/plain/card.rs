@@ -3,9 +3,9 @@
 
 use reference::card::Facts;
 
-use crate::card::{Card, ACCESS, DEPTH, LEAST, SIZE, WRITTEN};
+use crate::card::{Card, ACCESS, LEAST, SIZE, WRITTEN};
 use crate::guarded::Guarded;
-use crate::layouts;
+use crate::layouts::{DEPTH, LEGACY, RANGE};
 use crate::library::card::Told;
 
 use super::layout::is_valid;
@@ -23,16 +23,16 @@ pub type Row = (i64, fn(&Asked) -> bool);
 
 pub const READING: [Row; 7] = [
     (1, |asked| asked.length != SIZE),
-    (7, |asked| !(1..=2).contains(&asked.edition)),
+    (7, |asked| !(1..=3).contains(&asked.edition)),
     (9, |asked| asked.card[LEAST] == 0),
     (8, |asked| asked.card[LEAST] > asked.edition),
     (9, |asked| !is_good_to_byte_23(&asked.card)),
-    (10, |asked| asked.is_from_2_at_2() && asked.card[ACCESS] > 2),
+    (10, |asked| asked.is_from_2_on() && asked.card[ACCESS] > 2),
     (9, |asked| {
         let last = &asked.card[ACCESS..];
         match asked.card[WRITTEN] {
             1 => last.iter().any(|&byte| byte != 0),
-            _ => asked.is_from_2_at_2() && last[1..].iter().any(|&byte| byte != 0),
+            _ => asked.is_from_2_on() && last[1..].iter().any(|&byte| byte != 0),
         }
     }),
 ];
@@ -42,14 +42,14 @@ pub const READING: [Row; 7] = [
 pub type WritingRow = (i64, fn(u8, &Facts, usize) -> bool);
 
 pub const WRITING: [WritingRow; 4] = [
-    (7, |edition, _, _| !(1..=2).contains(&edition)),
+    (7, |edition, _, _| !(1..=3).contains(&edition)),
     (9, |_, facts, _| {
         !is_valid(facts.layout)
             || outside(facts.width, facts.height, facts.item)
             || facts.access > 2
     }),
     (11, |edition, facts, _| {
-        edition == 1 && (facts.layout[layouts::DEPTH] == 12 || facts.access != 0)
+        lacks_layout(edition, facts) || lacks_access(edition, facts)
     }),
     (13, |_, _, room| room != SIZE),
 ];
@@ -69,14 +69,27 @@ impl Asked {
         }
     }
 
-    fn is_from_2_at_2(&self) -> bool {
-        self.card[WRITTEN] == 2 && self.edition == 2
+    /// Whether it was written at 2 or later, and not later than it is read.
+    pub fn is_from_2_on(&self) -> bool {
+        (2..=self.edition).contains(&self.card[WRITTEN])
     }
+}
+
+pub fn lacks_layout(edition: u8, facts: &Facts) -> bool {
+    match edition {
+        1 => facts.layout[DEPTH] == 12 || facts.layout[RANGE] == LEGACY,
+        2 => facts.layout[RANGE] == LEGACY,
+        _ => false,
+    }
+}
+
+pub fn lacks_access(edition: u8, facts: &Facts) -> bool {
+    edition == 1 && facts.access != 0
 }
 
 pub fn shown(asked: &Asked) -> u8 {
     match asked.card[ACCESS] {
-        access @ 1..=2 if asked.edition == 2 => access,
+        access @ 1..=2 if asked.edition != 1 => access,
         _ => 0,
     }
 }
@@ -136,7 +149,10 @@ pub fn written(
 
 /// Byte 0 of facts that are valid.
 pub fn least(_: u8, facts: Facts) -> u8 {
-    1 + u8::from(facts.layout[layouts::DEPTH] == 12)
+    let editions = 1..=3;
+    editions
+        .filter(|&edition| !lacks_layout(edition, &facts))
+        .fold(3, u8::min)
 }
 
 /// Rewrites with the given rows and access: the bytes up to 23 are the same but for
@@ -179,8 +195,7 @@ pub fn stated(card: &Card, access: u8) -> Facts {
 fn is_good_to_byte_23(card: &Card) -> bool {
     let facts = stated(card, 0);
     card[WRITTEN] >= card[LEAST]
-        && (card[LEAST] == 2) == (card[DEPTH] == 12)
-        && card[LEAST] <= 2
+        && card[LEAST] == least(card[WRITTEN], facts)
         && [card[7], card[11]] == [0, 0]
         && !outside(facts.width, facts.height, facts.item)
         && is_valid(facts.layout)

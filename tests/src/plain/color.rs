@@ -8,7 +8,7 @@ use crate::guarded::Guarded;
 use crate::library::{Conversion, Direction};
 use crate::quantization::{refused, scale_of};
 
-use super::quantization::{line, Line};
+use super::quantization::{line, top, Line};
 
 /// One, in ten-thousandths.
 pub const ONE: i128 = 10_000;
@@ -27,6 +27,7 @@ pub struct Pieces {
     pub ycbcr: Formulas,
     pub rgb: Formulas,
     pub round: fn(Ratio) -> i128,
+    pub top: fn(Scale) -> i64,
 }
 
 pub const PIECES: Pieces = Pieces {
@@ -35,6 +36,7 @@ pub const PIECES: Pieces = Pieces {
     ycbcr,
     rgb,
     round: half_up,
+    top,
 };
 
 /// Converts with the given pieces.
@@ -45,7 +47,7 @@ pub fn converted(
     out: &mut Guarded<u16>,
     pieces: Pieces,
 ) -> i64 {
-    pointwise(conversion, codes, out, |point| {
+    clamped(conversion, codes, out, pieces.top, |point| {
         let values = values(direction, conversion, pieces.line, point);
         let [primaries, ..] = conversion;
         let weights = (pieces.weights)(primaries);
@@ -68,13 +70,26 @@ pub fn pointwise(
     out: &mut Guarded<u16>,
     rule: impl Fn([u16; 3]) -> [i128; 3],
 ) -> i64 {
-    let [_, depth, ..] = conversion;
+    clamped(conversion, codes, out, top, rule)
+}
+
+/// The same with another top.
+fn clamped(
+    conversion: Conversion,
+    codes: &mut Guarded<u16>,
+    out: &mut Guarded<u16>,
+    top: fn(Scale) -> i64,
+    rule: impl Fn([u16; 3]) -> [i128; 3],
+) -> i64 {
     if let Some(refusal) = refusal(conversion, codes.elements(), out.length()) {
         return refused(refusal);
     }
+    // All scales of a range and a depth have one top.
+    let [_, depth, _, range_out] = conversion;
+    let top = top(scale_of([1, range_out, depth, 0]));
     let (points, _) = codes.elements().as_chunks();
     for (&point, made) in points.iter().zip(out.output().chunks_mut(3)) {
-        let numbers = rule(point).map(|number| number.clamp(0, (1 << depth) - 1) as u16);
+        let numbers = rule(point).map(|number| number.clamp(0, top.into()) as u16);
         made.copy_from_slice(&numbers);
     }
     points.len() as i64
@@ -84,8 +99,8 @@ fn refusal(conversion: Conversion, codes: &[u16], out_length: usize) -> Option<R
     let [primaries, depth, range_in, range_out] = conversion;
     let inside = [1, 2, 3, 4].contains(&primaries)
         && [8, 10, 12].contains(&depth)
-        && [1, 2].contains(&range_in)
-        && [1, 2].contains(&range_out);
+        && [1, 2, 3].contains(&range_in)
+        && [1, 2, 3].contains(&range_out);
     let points = codes.len() / 3;
     if !inside {
         Some(Refusal::Outside)

@@ -27,7 +27,8 @@ pub fn limits(layout: Layout, channel: usize) -> [u32; 2] {
     match (layout[RANGE], layout[MODEL], channel) {
         (1, 2, 1 | 2) => [16, 240].map(|limit| limit << (layout[DEPTH] - 8)),
         (1, _, _) => [16, 235].map(|limit| limit << (layout[DEPTH] - 8)),
-        _ => [0, (1 << layout[DEPTH]) - 1],
+        (2, _, _) => [0, (1 << layout[DEPTH]) - 1],
+        _ => [0, 1 << layout[DEPTH]],
     }
 }
 
@@ -62,7 +63,7 @@ pub fn read(bytes: &[u8], out: &mut Guarded<u8>, order: Order, limits: Limits) -
     } else if !is_valid(layout) || !same_fields(bytes, &formed(layout, order, limits)) {
         refused(Refusal::Sample)
     } else {
-        let ranges = [1, 2].map(|range| with_range(layout, range));
+        let ranges = [1, 2, 3].map(|range| with_range(layout, range));
         match ranges
             .iter()
             .find(|&&layout| *bytes == formed(layout, order, limits))

@@ -7,7 +7,7 @@ pub fn is_valid(layout: Layout) -> bool {
     let [model, primaries, range, depth, bytes, ..] = layout;
     [1, 2].contains(&model)
         && [1, 2, 3, 4].contains(&primaries)
-        && [1, 2].contains(&range)
+        && [1, 2, 3].contains(&range)
         && [8, 10, 12].contains(&depth)
         && [3, 4, 5, 6, 7, 8].contains(&bytes)
         && fields_fit(layout)

@@ -17,7 +17,19 @@ pub fn line(scale: Scale) -> (i32, i32) {
         (Range::Narrow, Kind::Difference) => (224 * s, 128 * s),
         (Range::Full, Kind::Brightness) => ((1 << n) - 1, 0),
         (Range::Full, Kind::Difference) => ((1 << n) - 1, 1 << (n - 1)),
+        (Range::LegacyFull, Kind::Brightness) => (1 << n, 0),
+        (Range::LegacyFull, Kind::Difference) => (1 << n, 1 << (n - 1)),
     }
+}
+
+/// The greatest code that is made.
+pub fn top(scale: Scale) -> i64 {
+    let never_made = if scale.range == Range::LegacyFull && scale.depth == 12 {
+        3
+    } else {
+        0
+    };
+    (1 << scale.depth) - 1 - never_made
 }
 
 /// Dequantizes with the given line and division.
@@ -48,17 +60,27 @@ pub fn rounded(setting: Setting, value: f32, line: Line, round: fn(f64) -> f64) 
 
 /// The whole number is the rule's; refusals and clamping are right.
 pub fn numbered(setting: Setting, value: f32, rule: impl Fn(Scale, f32) -> f64) -> i64 {
+    clamped(setting, value, rule, top)
+}
+
+/// Quantizes with the given rule for the whole number and the given top.
+pub fn clamped(
+    setting: Setting,
+    value: f32,
+    rule: impl Fn(Scale, f32) -> f64,
+    top: fn(Scale) -> i64,
+) -> i64 {
     match scale(setting) {
         Err(refusal) => refused(refusal),
         Ok(_) if value.is_nan() => refused(Refusal::NotANumber),
         // A float beyond 64 bits, infinities too, becomes the last number there.
-        Ok(scale) => (rule(scale, value) as i64).clamp(0, (1 << scale.depth) - 1),
+        Ok(scale) => (rule(scale, value) as i64).clamp(0, top(scale)),
     }
 }
 
 /// The number on a line, before rounding.
 ///
-/// It is exact wherever rounding matters. The product has at most 24 + 12 bits. A
+/// It is exact wherever rounding matters. The product has at most 24 + 13 bits. A
 /// float of 2^-17 or above has no bit under 2^-40, so with a base under 2^12 the
 /// sum has at most 52. A smaller float moves the base by less than a half.
 pub fn on_line((step, base): (i32, i32), value: f32) -> f64 {

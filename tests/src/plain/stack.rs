@@ -14,7 +14,7 @@ pub fn found(stack: &mut Guarded<u8>, edition: u8, item: u64) -> i64 {
     if is_refused(stack) {
         return -1;
     }
-    if !(1..=2).contains(&edition) {
+    if !(1..=3).contains(&edition) {
         return -7;
     }
     let mut found = -15;
@@ -43,7 +43,7 @@ pub fn listed(
     number(&mut text, (stack.len() / SIZE) as u64);
     for card in stack.chunks(SIZE) {
         text.push(b'\n');
-        let asked = Asked::new(card, 2);
+        let asked = Asked::new(card, 3);
         match refusal(&asked, &READING) {
             0 => {
                 let facts = stated(&asked.card, shown(&asked));

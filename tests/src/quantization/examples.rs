@@ -1,6 +1,6 @@
-//! The paper's marked examples and traps by name, and the figures that document
-//! 000 publishes. The numbers are copied from there, so the library and the
-//! reference are both compared with them.
+//! The paper's marked examples and traps by name, the request's for the older full
+//! range, and the figures that document 000 publishes. The numbers are copied from
+//! there, so the library and the reference are both compared with them.
 
 use crate::library::{Library, Setting, FLOAT};
 use crate::tally::{Flow, Tally};
@@ -27,7 +27,7 @@ const fn example(name: &'static str, setting: Setting, value: f32, code: u16) ->
 /// The float just under 1/8, namely 1/8 - 2^-27.
 const UNDER_AN_EIGHTH: f32 = 0.125 - 1.0 / 134_217_728.0;
 
-const MARKED: [Example; 18] = [
+const MARKED: [Example; 42] = [
     example("M1", [1, 1, 8, 0], 1.0, 235),
     example("M2", [2, 1, 8, 1], -0.5, 16),
     example("M3", [2, 1, 8, 1], 0.5, 240),
@@ -51,59 +51,155 @@ const MARKED: [Example; 18] = [
     example("trap: 0.5 wraps to 0", [2, 2, 10, 2], 0.5, 1023),
     example("trap: 0.5 wraps to 0", [2, 2, 12, 2], 0.5, 4095),
     example("trap: the sign left out", [1, 2, 8, 1], -1.0, 0),
+    // The older full range: floor(1/2 + 256 v), where full range has Round(255 v).
+    example("older: 1/2 is 128", [1, 3, 8, 0], 0.5, 128),
+    example("older: 3/4 is 192", [1, 3, 8, 1], 0.75, 192),
+    example("full: 3/4 is 191.25", [1, 2, 8, 1], 0.75, 191),
+    example("older: 1 is 256, clamped", [1, 3, 8, 2], 1.0, 255),
+    example("older: 1 is 1024, clamped", [2, 3, 10, 0], 1.0, 1023),
+    example("older: 1 is 4096, clamped", [2, 3, 12, 0], 1.0, 4092),
+    example(
+        "older: 4094/4096, clamped",
+        [1, 3, 12, 0],
+        4094.0 / 4096.0,
+        4092,
+    ),
+    example(
+        "older: half over 4092",
+        [1, 3, 12, 0],
+        4092.5 / 4096.0,
+        4092,
+    ),
+    example(
+        "older: half over 4091",
+        [1, 3, 12, 0],
+        4091.5 / 4096.0,
+        4092,
+    ),
+    example(
+        "older: under half over 4091",
+        [1, 3, 12, 0],
+        4091.4375 / 4096.0,
+        4091,
+    ),
+    example("older: half over 0", [1, 3, 10, 0], 0.5 / 1024.0, 1),
+    example(
+        "older: under half over 0",
+        [1, 3, 10, 0],
+        0.4375 / 1024.0,
+        0,
+    ),
+    example("older: half under 0", [1, 3, 10, 0], -0.5 / 1024.0, 0),
+    example("older: under 0", [1, 3, 10, 0], -1.0, 0),
+    // floor(1/2 + (v + 1/2) 2^n).
+    example("older: -1/2 is 0", [2, 3, 8, 1], -0.5, 0),
+    example("full: -1/2 is 1/2, rounded up", [2, 2, 8, 1], -0.5, 1),
+    example("older: -1/4 is 64", [2, 3, 8, 2], -0.25, 64),
+    example("older: 1/4 is 3072", [2, 3, 12, 1], 0.25, 3072),
+    example("older: 1/2 is 256, clamped", [2, 3, 8, 1], 0.5, 255),
+    example("older: 1/2 is 1024, clamped", [2, 3, 10, 2], 0.5, 1023),
+    example("older: 1/2 is 4096, clamped", [2, 3, 12, 2], 0.5, 4092),
+    example("older: half over -1/2", [2, 3, 8, 1], -0.5 + 0.5 / 256.0, 1),
+    example(
+        "older: the top for infinity",
+        [1, 3, 12, 0],
+        f32::INFINITY,
+        4092,
+    ),
+    example(
+        "older: 0 for minus infinity",
+        [2, 3, 12, 1],
+        f32::NEG_INFINITY,
+        0,
+    ),
+];
+
+/// Codes of the older full range and what they are worth, at the three codes above
+/// its top too.
+const OLDER: [Example; 9] = [
+    example("older 200", [1, 3, 8, 0], 0.78125, 200),
+    example("older 255", [1, 3, 8, 0], 255.0 / 256.0, 255),
+    example("older 0, a difference", [2, 3, 8, 1], -0.5, 0),
+    example("older 1, a difference", [2, 3, 10, 1], -511.0 / 1024.0, 1),
+    example("older 4092", [1, 3, 12, 0], 4092.0 / 4096.0, 4092),
+    example("older 4093", [1, 3, 12, 1], 4093.0 / 4096.0, 4093),
+    example("older 4094", [2, 3, 12, 0], 4094.0 / 4096.0, 4094),
+    example("older 4095", [1, 3, 12, 2], 4095.0 / 4096.0, 4095),
+    example(
+        "older 4095, a difference",
+        [2, 3, 12, 2],
+        2047.0 / 4096.0,
+        4095,
+    ),
 ];
 
 pub fn marked(library: &Library, tally: &mut Tally) -> Flow {
     for example in &MARKED {
         quantizes(library, tally, example)?;
     }
+    for example in &OLDER {
+        dequantizes(library, tally, example)?;
+    }
     // The base is the code of plus zero, at every depth.
     for (depth, code) in [(8, 128), (10, 512), (12, 2048)] {
         for channel in [1, 2] {
-            let name = "trap: 128 at every depth";
-            let example = example(name, [2, 2, depth, channel], 0.0, code);
-            dequantizes(library, tally, &example)?;
+            for range in [2, 3] {
+                let name = "trap: 128 at every depth";
+                let example = example(name, [2, range, depth, channel], 0.0, code);
+                dequantizes(library, tally, &example)?;
+            }
         }
     }
     Flow::Continue(())
 }
 
 /// The two tables of document 000, "That is, in narrow range encoding" and
-/// "That is, in full range encoding", for every depth and channel.
+/// "That is, in full range encoding", and the two notes under its legacy full range,
+/// for every depth and channel.
 pub fn published(library: &Library, tally: &mut Tally) -> Flow {
     for depth in [8, 10, 12] {
         let s = 1_u16 << (depth - 8);
         let top = (1_u16 << depth) - 1;
         let half = 1_u16 << (depth - 1);
+        let older_top = if depth == 12 { 4092 } else { top };
         for [model, channel] in [[1, 0], [1, 1], [1, 2], [2, 0]] {
             let narrow = [model, 1, depth, channel];
             let full = [model, 2, depth, channel];
+            let older = [model, 3, depth, channel];
             for example in [
                 example("narrow black", narrow, 0.0, 16 * s),
                 example("narrow peak brightness", narrow, 1.0, 235 * s),
                 example("full black", full, 0.0, 0),
                 example("full peak brightness", full, 1.0, top),
+                example("older full black", older, 0.0, 0),
             ] {
                 quantizes(library, tally, &example)?;
                 dequantizes(library, tally, &example)?;
             }
+            // It has no code of its own.
+            let white = example("older full peak brightness", older, 1.0, older_top);
+            quantizes(library, tally, &white)?;
         }
         for [model, channel] in [[2, 1], [2, 2]] {
             let narrow = [model, 1, depth, channel];
             let full = [model, 2, depth, channel];
+            let older = [model, 3, depth, channel];
             for example in [
                 example("narrow minimum difference", narrow, -0.5, 16 * s),
                 example("narrow maximum difference", narrow, 0.5, 240 * s),
                 example("narrow achromatic", narrow, 0.0, 128 * s),
                 example("full achromatic", full, 0.0, half),
+                example("older full minimum difference", older, -0.5, 0),
+                example("older full achromatic", older, 0.0, half),
             ] {
                 quantizes(library, tally, &example)?;
                 dequantizes(library, tally, &example)?;
             }
-            // These two are ties, so their codes have other values.
+            // Two ties and one that is clamped, so their codes have other values.
             for example in [
                 example("full minimum difference", full, -0.5, 1),
                 example("full maximum difference", full, 0.5, top),
+                example("older full maximum difference", older, 0.5, older_top),
             ] {
                 quantizes(library, tally, &example)?;
             }

@@ -1,5 +1,6 @@
 //! Refusals, and which of two competing refusals is given.
 
+use crate::layouts::LEGACY;
 use crate::library::{Library, Setting};
 use crate::tally::{Flow, Tally};
 
@@ -39,7 +40,7 @@ pub fn single(library: &Library, tally: &mut Tally) -> Flow {
 /// Each two inputs take all their 65,536 values, from one setting of each kind,
 /// with a good code and a bad one, a number and a not-a-number.
 pub fn pairs(library: &Library, tally: &mut Tally) -> Flow {
-    let brightness: Setting = [1, 2, 8, 1];
+    let brightness: Setting = [1, LEGACY, 8, 1];
     let difference: Setting = [2, 1, 12, 2];
     for setting in [brightness, difference] {
         for first in 0..setting.len() {

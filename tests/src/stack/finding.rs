@@ -1,14 +1,14 @@
 //! What is found, and where.
 
+use crate::card::KNOWN_EDITIONS;
 use crate::library::Library;
 use crate::random::Random;
 use crate::tally::{Flow, Tally};
 
-use super::stacks::{self, card_of, card_of_12_bits, counted, refused_cards_of};
+use super::stacks::{self, card_of, card_of_12_bits, counted, older_card_of, refused_cards_of};
 use super::{compare_find, MOST_CARDS};
 
-const RANDOM_STACKS: usize = 3000;
-const EDITIONS: [u8; 2] = [1, 2];
+const RANDOM_STACKS: usize = 2000;
 
 /// Refused cards of the same item and of another, of every kind, before the match,
 /// after it, on both sides and without one.
@@ -19,6 +19,7 @@ pub fn after_refused(library: &Library, tally: &mut Tally) -> Flow {
     let mut refused = refused_cards_of(7);
     refused.extend(refused_cards_of(8));
     refused.push(card_of_12_bits(7));
+    refused.extend([0, 1, 2].map(|turn| older_card_of(7, turn)));
     refused.push([0; 32]);
     refused.push([255; 32]);
     for bad in refused {
@@ -31,7 +32,7 @@ pub fn after_refused(library: &Library, tally: &mut Tally) -> Flow {
             &[bad, good, bad, again, bad],
             &[other, bad, other],
         ] {
-            for edition in EDITIONS {
+            for edition in KNOWN_EDITIONS {
                 for item in [7, 8, 9] {
                     compare_find(library, tally, &stack.concat(), edition, item)?;
                 }
@@ -52,7 +53,7 @@ pub fn near_items(library: &Library, tally: &mut Tally) -> Flow {
                 _ => card_of(near, bit),
             };
             let stack = [first, card_of(item, bit + 1)].concat();
-            for edition in EDITIONS {
+            for edition in KNOWN_EDITIONS {
                 compare_find(library, tally, &stack, edition, item)?;
                 compare_find(library, tally, &stack, edition, near)?;
             }
@@ -68,7 +69,7 @@ pub fn random(library: &Library, tally: &mut Tally) -> Flow {
         let most_items = 1 + random.below(6);
         let stack = stacks::random(&mut random, most_items);
         for item in 1..=most_items as u64 + 1 {
-            for edition in EDITIONS {
+            for edition in KNOWN_EDITIONS {
                 compare_find(library, tally, &stack, edition, item)?;
             }
         }
@@ -81,7 +82,7 @@ pub fn every_place(library: &Library, tally: &mut Tally) -> Flow {
     let mut stack = counted(MOST_CARDS);
     for place in 0..MOST_CARDS {
         let item = place as u64 + 1;
-        let edition = EDITIONS[place % 2];
+        let edition = KNOWN_EDITIONS[place % KNOWN_EDITIONS.len()];
         compare_find(library, tally, &stack, edition, item)?;
         let last = stack.len() - 32;
         stack[last..].copy_from_slice(&card_of(item, place));

@@ -8,7 +8,7 @@ use crate::random::Random;
 
 use super::MOST_CARDS;
 
-/// A card of an item that both editions read. Sizes and access take turns.
+/// A card of an item that every edition reads. Sizes and access take turns.
 pub fn card_of(item: u64, turn: usize) -> Card {
     let depth = [8, 10][turn % 2];
     cards::card(Facts {
@@ -18,7 +18,7 @@ pub fn card_of(item: u64, turn: usize) -> Card {
     })
 }
 
-/// A card of an item that edition 1 refuses and edition 2 reads.
+/// A card of an item that edition 1 refuses and later ones read.
 pub fn card_of_12_bits(item: u64) -> Card {
     cards::card(Facts {
         item,
@@ -26,13 +26,28 @@ pub fn card_of_12_bits(item: u64) -> Card {
     })
 }
 
-/// Cards of an item that edition 2 refuses, by every refusal it has; the last two,
-/// for their bytes from 24 on, are read by edition 1.
+/// A card of an item in the older full range, which only edition 3 reads. Depths,
+/// sizes and access take turns.
+pub fn older_card_of(item: u64, turn: usize) -> Card {
+    let depth = [8, 10, 12][turn % 3];
+    cards::card(Facts {
+        item,
+        access: (turn / 3 % 3) as u8,
+        ..cards::facts_in_turn(cards::older(depth), turn)
+    })
+}
+
+/// Cards of an item that editions 2 and 3 refuse, by every refusal they have; the
+/// last two, for their bytes from 24 on, are read by edition 1.
 pub fn refused_cards_of(item: u64) -> Vec<Card> {
-    let changes: [&[(usize, u8)]; 10] = [
+    let changes: [&[(usize, u8)]; 14] = [
         &[(LEAST, 0)],
+        &[(LEAST, 4), (WRITTEN, 4)],
         &[(LEAST, 3), (WRITTEN, 3)],
         &[(LEAST, 2)],
+        &[(4, 3)],
+        &[(4, 3), (LEAST, 2)],
+        &[(4, 4), (LEAST, 3), (WRITTEN, 3)],
         &[(WRITTEN, 0)],
         &[(2, 3)],
         &[(7, 1)],
@@ -61,7 +76,7 @@ pub fn counted(cards: usize) -> Vec<u8> {
 }
 
 /// A stack with few items, so that many are there twice, and with cards of 12 bits,
-/// refused cards and cards of later editions among them.
+/// of the older full range, refused cards and cards of later editions among them.
 pub fn random(random: &mut Random, most_items: usize) -> Vec<u8> {
     let cards = match random.below(8) {
         0 => random.below(MOST_CARDS + 1),
@@ -74,8 +89,9 @@ pub fn random(random: &mut Random, most_items: usize) -> Vec<u8> {
 
 fn random_card(random: &mut Random, most_items: usize, turn: usize) -> Card {
     let item = 1 + random.below(most_items) as u64;
-    match random.below(8) {
+    match random.below(9) {
         0 => card_of_12_bits(item),
+        8 => older_card_of(item, turn),
         1 | 2 => {
             let refused = refused_cards_of(item);
             refused[random.below(refused.len())]

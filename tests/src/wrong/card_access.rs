@@ -1,7 +1,7 @@
 //! Mistakes in the access that a card shows, and in the bytes that are looked at
 //! for it.
 
-use crate::card::{expected_read, ACCESS, WRITTEN};
+use crate::card::{expected_read, ACCESS, LEAST, WRITTEN};
 use crate::library::card::Told;
 use crate::plain::card::{read, shown, Row, READING};
 
@@ -49,10 +49,49 @@ pub const WRONG: &[Wrong] = &[
     ),
     reads("later cards all closed", |card, edition, told| {
         read(card, edition, told, &READING, |asked| {
-            if asked.card[WRITTEN] > 2 {
+            if asked.card[WRITTEN] > asked.edition {
                 0
             } else {
                 shown(asked)
+            }
+        })
+    }),
+    reads("access shown by edition 2 alone", |card, edition, told| {
+        read(card, edition, told, &READING, |asked| match asked.edition {
+            2 => shown(asked),
+            _ => 0,
+        })
+    }),
+    reads("access shown by edition 3 alone", |card, edition, told| {
+        read(card, edition, told, &READING, |asked| match asked.edition {
+            3 => shown(asked),
+            _ => 0,
+        })
+    }),
+    reads(
+        "access from 3 closed at 2, and from 2 at 3",
+        |card, edition, told| {
+            read(card, edition, told, &READING, |asked| {
+                match (asked.card[WRITTEN], asked.edition) {
+                    (2, 3) | (3, 2) => 0,
+                    _ => shown(asked),
+                }
+            })
+        },
+    ),
+    reads("an early capture always closed", |card, edition, told| {
+        read(card, edition, told, &READING, |asked| {
+            match asked.card[LEAST] {
+                3 => 0,
+                _ => shown(asked),
+            }
+        })
+    }),
+    reads("an early capture open", |card, edition, told| {
+        read(card, edition, told, &READING, |asked| {
+            match asked.card[LEAST] {
+                3 => 2,
+                _ => shown(asked),
             }
         })
     }),
@@ -71,37 +110,70 @@ pub const WRONG: &[Wrong] = &[
     // Refusal 10.
     reads("10 for a card written at 1", |card, edition, told| {
         let row: Row = (10, |asked| {
-            asked.edition == 2 && asked.card[WRITTEN] <= 2 && asked.card[ACCESS] > 2
+            asked.edition >= 2 && asked.card[WRITTEN] <= asked.edition && asked.card[ACCESS] > 2
         });
         read(card, edition, told, &exchanged(ACCESS_ABOVE_2, row), shown)
     }),
-    reads("10 for a card written at 3", |card, edition, told| {
-        let row: Row = (10, |asked| {
-            asked.edition == 2 && matches!(asked.card[WRITTEN], 2 | 3) && asked.card[ACCESS] > 2
-        });
-        read(card, edition, told, &exchanged(ACCESS_ABOVE_2, row), shown)
-    }),
+    reads(
+        "10 for a card from the next edition",
+        |card, edition, told| {
+            let row: Row = (10, |asked| {
+                asked.edition >= 2
+                    && (2..=asked.edition + 1).contains(&asked.card[WRITTEN])
+                    && asked.card[ACCESS] > 2
+            });
+            read(card, edition, told, &exchanged(ACCESS_ABOVE_2, row), shown)
+        },
+    ),
     reads("10 for later cards", |card, edition, told| {
         let row: Row = (10, |asked| {
-            asked.edition == 2 && asked.card[WRITTEN] >= 2 && asked.card[ACCESS] > 2
+            asked.edition >= 2 && asked.card[WRITTEN] >= 2 && asked.card[ACCESS] > 2
+        });
+        read(card, edition, told, &exchanged(ACCESS_ABOVE_2, row), shown)
+    }),
+    reads("10 for later cards at 3", |card, edition, told| {
+        let row: Row = (10, |asked| {
+            let later = asked.edition == 3 && asked.card[WRITTEN] > 3;
+            (later || asked.is_from_2_on()) && asked.card[ACCESS] > 2
         });
         read(card, edition, told, &exchanged(ACCESS_ABOVE_2, row), shown)
     }),
     reads("10 at edition 1", |card, edition, told| {
         let row: Row = (10, |asked| {
-            asked.card[WRITTEN] == 2 && asked.card[ACCESS] > 2
+            (asked.card[WRITTEN] == 2 || asked.is_from_2_on()) && asked.card[ACCESS] > 2
         });
         read(card, edition, told, &exchanged(ACCESS_ABOVE_2, row), shown)
     }),
     reads("10 for open", |card, edition, told| {
-        let row: Row = (10, |asked| {
-            asked.edition == 2 && asked.card[WRITTEN] == 2 && asked.card[ACCESS] > 1
-        });
+        let row: Row = (10, |asked| asked.is_from_2_on() && asked.card[ACCESS] > 1);
         read(card, edition, told, &exchanged(ACCESS_ABOVE_2, row), shown)
     }),
     reads("10 for numbers above 3 only", |card, edition, told| {
+        let row: Row = (10, |asked| asked.is_from_2_on() && asked.card[ACCESS] > 3);
+        read(card, edition, told, &exchanged(ACCESS_ABOVE_2, row), shown)
+    }),
+    reads("10 only from 2 at 2", |card, edition, told| {
         let row: Row = (10, |asked| {
-            asked.edition == 2 && asked.card[WRITTEN] == 2 && asked.card[ACCESS] > 3
+            [asked.card[WRITTEN], asked.edition] == [2, 2] && asked.card[ACCESS] > 2
+        });
+        read(card, edition, told, &exchanged(ACCESS_ABOVE_2, row), shown)
+    }),
+    reads("10 only at the writer's edition", |card, edition, told| {
+        let row: Row = (10, |asked| {
+            asked.is_from_2_on() && asked.card[WRITTEN] == asked.edition && asked.card[ACCESS] > 2
+        });
+        read(card, edition, told, &exchanged(ACCESS_ABOVE_2, row), shown)
+    }),
+    reads("10 only for cards from 2", |card, edition, told| {
+        let row: Row = (10, |asked| {
+            asked.is_from_2_on() && asked.card[WRITTEN] == 2 && asked.card[ACCESS] > 2
+        });
+        read(card, edition, told, &exchanged(ACCESS_ABOVE_2, row), shown)
+    }),
+    reads("access 3 known to edition 3", |card, edition, told| {
+        let row: Row = (10, |asked| {
+            let most = if asked.card[WRITTEN] == 3 { 3 } else { 2 };
+            asked.is_from_2_on() && asked.card[ACCESS] > most
         });
         read(card, edition, told, &exchanged(ACCESS_ABOVE_2, row), shown)
     }),
@@ -130,8 +202,7 @@ pub const WRONG: &[Wrong] = &[
         "the access of a card from 1 shown",
         |card, edition, told| {
             let row: Row = (9, |asked| {
-                asked.card[WRITTEN] <= 2
-                    && (asked.edition == 2 || asked.card[WRITTEN] == 1)
+                (asked.is_from_2_on() || asked.card[WRITTEN] == 1)
                     && asked.card[ACCESS + 1..] != [0; 7]
             });
             read(card, edition, told, &exchanged(LAST_BYTES, row), shown)
@@ -177,6 +248,26 @@ pub const WRONG: &[Wrong] = &[
             })
         },
     ),
+    reads(
+        "bytes 25 to 31 of a card from 3 not looked at",
+        |card, edition, told| {
+            changed(card, edition, told, |card| {
+                if card[WRITTEN] == 3 {
+                    card[ACCESS + 1..].fill(0);
+                }
+            })
+        },
+    ),
+    reads(
+        "bytes 25 to 31 of a card from 2 not looked at at 3",
+        |card, edition, told| {
+            changed(card, edition, told, |card| {
+                if card[WRITTEN] == 2 && edition == 3 {
+                    card[ACCESS + 1..].fill(0);
+                }
+            })
+        },
+    ),
     reads("byte 31 not looked at", |card, edition, told| {
         changed(card, edition, told, |card| card[31] = 0)
     }),
@@ -186,10 +277,10 @@ pub const WRONG: &[Wrong] = &[
     reads(
         "bytes 25 to 31 of a card from 2 looked at at 1",
         |card, edition, told| {
-            let row: Row = (9, |asked| match asked.card[WRITTEN] {
-                1 => asked.card[ACCESS..] != [0; 8],
-                2 => asked.card[ACCESS + 1..] != [0; 7],
-                _ => false,
+            let row: Row = (9, |asked| match (asked.card[WRITTEN], asked.edition) {
+                (1, _) => asked.card[ACCESS..] != [0; 8],
+                (2, 1) => asked.card[ACCESS + 1..] != [0; 7],
+                _ => asked.is_from_2_on() && asked.card[ACCESS + 1..] != [0; 7],
             });
             read(card, edition, told, &exchanged(LAST_BYTES, row), shown)
         },
@@ -199,8 +290,19 @@ pub const WRONG: &[Wrong] = &[
         |card, edition, told| {
             let row: Row = (9, |asked| match (asked.card[WRITTEN], asked.edition) {
                 (1, _) => asked.card[ACCESS..] != [0; 8],
-                (_, 1) => false,
-                _ => asked.card[ACCESS + 1..] != [0; 7],
+                (2.., 2) => asked.card[ACCESS + 1..] != [0; 7],
+                _ => asked.is_from_2_on() && asked.card[ACCESS + 1..] != [0; 7],
+            });
+            read(card, edition, told, &exchanged(LAST_BYTES, row), shown)
+        },
+    ),
+    reads(
+        "bytes 25 to 31 of later cards looked at at 3",
+        |card, edition, told| {
+            let row: Row = (9, |asked| match (asked.card[WRITTEN], asked.edition) {
+                (1, _) => asked.card[ACCESS..] != [0; 8],
+                (2.., 3) => asked.card[ACCESS + 1..] != [0; 7],
+                _ => asked.is_from_2_on() && asked.card[ACCESS + 1..] != [0; 7],
             });
             read(card, edition, told, &exchanged(LAST_BYTES, row), shown)
         },

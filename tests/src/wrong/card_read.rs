@@ -1,8 +1,8 @@
 //! Mistakes in reading cards, but for their access.
 
-use crate::card::{expected_read, ACCESS, DEPTH, ITEM, LEAST, WRITTEN};
+use crate::card::{expected_read, ACCESS, DEPTH, ITEM, LEAST, RANGE, WRITTEN};
 use crate::guarded::Guarded;
-use crate::layouts::OFFSETS;
+use crate::layouts::{self, LEGACY, OFFSETS};
 use crate::library::card::Told;
 use crate::plain::card::{read, shown, stated, Row};
 use crate::plain::layout::is_valid;
@@ -30,10 +30,17 @@ pub const WRONG: &[Wrong] = &[
         let row: Row = (8, |asked| asked.card[WRITTEN] > asked.edition);
         read(card, edition, told, &exchanged(TOO_NEW, row), shown)
     }),
-    reads("8 for byte 0 above 2 only", |card, edition, told| {
-        let row: Row = (8, |asked| asked.card[LEAST] > 2);
+    reads("8 for byte 0 above 3 only", |card, edition, told| {
+        let row: Row = (8, |asked| asked.card[LEAST] > 3);
         read(card, edition, told, &exchanged(TOO_NEW, row), shown)
     }),
+    reads(
+        "8 for byte 0 above 2 at every edition",
+        |card, edition, told| {
+            let row: Row = (8, |asked| asked.card[LEAST] > asked.edition.min(2));
+            read(card, edition, told, &exchanged(TOO_NEW, row), shown)
+        },
+    ),
     reads("8 left out", |card, edition, told| {
         read(card, edition, told, &rows([0, 1, 2, 4, 5, 6]), shown)
     }),
@@ -48,6 +55,67 @@ pub const WRONG: &[Wrong] = &[
         changed(card, edition, told, |card| {
             if card[LEAST] == 1 && edition == 2 && card[DEPTH] == 12 {
                 card[LEAST] = 2;
+            }
+        })
+    }),
+    reads(
+        "byte 0 of 3 only at 12 bits, reading",
+        |card, edition, told| {
+            changed(card, edition, told, |card| {
+                if card[RANGE] == LEGACY && card[DEPTH] != 12 {
+                    card[LEAST] = match card[LEAST] {
+                        1 if edition == 3 => 3,
+                        3 => 1,
+                        least => least,
+                    };
+                }
+            })
+        },
+    ),
+    reads(
+        "byte 0 of 2 for early captures of 12 bits",
+        |card, edition, told| {
+            changed(card, edition, told, |card| {
+                if card[RANGE] == LEGACY && card[DEPTH] == 12 && card[LEAST] == 2 && edition == 3 {
+                    card[LEAST] = 3;
+                }
+            })
+        },
+    ),
+    reads("byte 0 of 3 for any layout", |card, edition, told| {
+        changed(card, edition, told, |card| {
+            if card[LEAST] == 3 && edition == 3 && card[RANGE] != LEGACY && card[WRITTEN] >= 3 {
+                card[LEAST] = if card[DEPTH] == 12 { 2 } else { 1 };
+            }
+        })
+    }),
+    reads("early captures read at 2", |card, edition, told| {
+        let early = matches!(card.elements(), [3, _, _, _, LEGACY, ..]);
+        let edition = if early && edition == 2 { 3 } else { edition };
+        expected_read(card, edition, told)
+    }),
+    reads(
+        "early captures read at no edition",
+        |card, edition, told| match card.elements() {
+            [3, _, _, _, LEGACY, ..] if judged(card, edition) == 0 => -9,
+            _ => expected_read(card, edition, told),
+        },
+    ),
+    reads(
+        "early captures shown in full range",
+        |card, edition, told| {
+            let answer = expected_read(card, edition, told);
+            if answer == 0 {
+                let range = &mut told.layout.output()[layouts::RANGE];
+                *range = (*range).min(2);
+            }
+            answer
+        },
+    ),
+    reads("range 4 taken for 3 in a card", |card, edition, told| {
+        changed(card, edition, told, |card| {
+            if card[RANGE] == 4 {
+                card[RANGE] = LEGACY;
             }
         })
     }),

@@ -13,8 +13,16 @@ pub const WRONG: &[Wrong] = &[
     reads("edition 0 taken for 1", |card, edition, told| {
         expected_read(card, edition.max(1), told)
     }),
-    reads("later editions taken for 2", |card, edition, told| {
-        expected_read(card, edition.min(2), told)
+    reads("later editions taken for 3", |card, edition, told| {
+        expected_read(card, edition.min(3), told)
+    }),
+    reads("edition 3 not known", |card, edition, told| {
+        let edition = if edition == 3 { 4 } else { edition };
+        expected_read(card, edition, told)
+    }),
+    reads("edition 4 taken for 3", |card, edition, told| {
+        let edition = if edition == 4 { 3 } else { edition };
+        expected_read(card, edition, told)
     }),
     reads("edition 3 taken for 2", |card, edition, told| {
         let edition = if edition == 3 { 2 } else { edition };
@@ -122,7 +130,7 @@ pub const WRONG: &[Wrong] = &[
         read(card, edition, told, &rows([0, 1, 2, 4, 3, 5, 6]), shown)
     }),
     reads("10 before 8", |card, edition, told| {
-        // At edition 2, with byte 0 above it.
+        // At edition 2 or 3, with byte 0 above it.
         read(card, edition, told, &rows([0, 1, 2, 5, 3, 4, 6]), shown)
     }),
     reads("10 before 9", |card, edition, told| {

@@ -50,9 +50,24 @@ pub const WRONG: &[Wrong] = &[
     }),
     rewrites("later cards closed", |card, edition, out| {
         rewritten(card, edition, out, &READING, |asked| {
-            match asked.card[WRITTEN] {
-                0..=2 => shown(asked),
-                _ => 0,
+            if asked.card[WRITTEN] > asked.edition {
+                0
+            } else {
+                shown(asked)
+            }
+        })
+    }),
+    rewrites("everything closed by edition 3", |card, edition, out| {
+        rewritten(card, edition, out, &READING, |asked| match asked.edition {
+            3 => 0,
+            _ => shown(asked),
+        })
+    }),
+    rewrites("cards from 3 closed by edition 2", |card, edition, out| {
+        rewritten(card, edition, out, &READING, |asked| {
+            match (asked.card[WRITTEN], asked.edition) {
+                (3, 2) => 0,
+                _ => shown(asked),
             }
         })
     }),
@@ -82,7 +97,7 @@ pub const WRONG: &[Wrong] = &[
         |card, edition, out| {
             let from_1 = card.elements().get(WRITTEN) == Some(&1);
             stored(card, edition, out, |room| {
-                if from_1 && edition == 2 {
+                if from_1 && edition >= 2 {
                     room[ACCESS] = 1;
                 }
             })
@@ -116,7 +131,7 @@ pub const WRONG: &[Wrong] = &[
     ),
     rewrites("11 for 8", |card, edition, out| {
         match expected_rewrite(card, edition, out) {
-            -8 if edition == 1 => -11,
+            -8 if edition < 3 => -11,
             answer => answer,
         }
     }),
@@ -124,6 +139,35 @@ pub const WRONG: &[Wrong] = &[
         let edition = if edition == 3 { 2 } else { edition };
         expected_rewrite(card, edition, out)
     }),
+    rewrites("edition 4 rewrites as 3", |card, edition, out| {
+        let edition = if edition == 4 { 3 } else { edition };
+        expected_rewrite(card, edition, out)
+    }),
+    rewrites("edition 3 rewrites nothing", |card, edition, out| {
+        let edition = if edition == 3 { 4 } else { edition };
+        expected_rewrite(card, edition, out)
+    }),
+    rewrites(
+        "early captures rewritten at 2",
+        |card, edition, out| match expected_rewrite(card, edition, out) {
+            -8 if edition == 2 => expected_rewrite(card, 3, out),
+            answer => answer,
+        },
+    ),
+    rewrites(
+        "early captures rewritten in full range at 2",
+        |card, edition, out| {
+            let mut copy = card.clone();
+            match copy.output() {
+                [least @ 3, _, _, _, range @ 3, depth, ..] if edition == 2 => {
+                    *least = if *depth == 12 { 2 } else { 1 };
+                    *range = 2;
+                    expected_rewrite(&mut copy, edition, out)
+                }
+                _ => expected_rewrite(card, edition, out),
+            }
+        },
+    ),
     rewrites("edition 0 rewrites as 1", |card, edition, out| {
         expected_rewrite(card, edition.max(1), out)
     }),

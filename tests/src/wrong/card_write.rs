@@ -4,7 +4,7 @@ use reference::card::Facts;
 
 use crate::card::{expected_write, ACCESS, ITEM, LEAST, WRITTEN};
 use crate::guarded::Guarded;
-use crate::layouts::DEPTH;
+use crate::layouts::{DEPTH, LEGACY, RANGE};
 use crate::library::card::CardWrite;
 use crate::library::Library;
 use crate::plain::card::{least, written, WRITING};
@@ -38,6 +38,40 @@ pub const WRONG: &[Wrong] = &[
             }
         })
     }),
+    writes("byte 0 of 3 only at 12 bits", |edition, facts, out| {
+        written(edition, facts, out, &WRITING, |edition, facts| {
+            if facts.layout[RANGE] == LEGACY && facts.layout[DEPTH] != 12 {
+                1
+            } else {
+                least(edition, facts)
+            }
+        })
+    }),
+    writes(
+        "byte 0 of 2 for early captures of 12 bits",
+        |edition, facts, out| {
+            written(edition, facts, out, &WRITING, |edition, facts| {
+                if facts.layout[RANGE] == LEGACY && facts.layout[DEPTH] == 12 {
+                    2
+                } else {
+                    least(edition, facts)
+                }
+            })
+        },
+    ),
+    writes("byte 0 never above 2", |edition, facts, out| {
+        written(edition, facts, out, &WRITING, |edition, facts| {
+            least(edition, facts).min(2)
+        })
+    }),
+    writes("byte 0 of 3 in full range too", |edition, facts, out| {
+        written(edition, facts, out, &WRITING, |edition, facts| {
+            match (edition, facts.layout[RANGE]) {
+                (3, 2) => 3,
+                _ => least(edition, facts),
+            }
+        })
+    }),
     writes("byte 1 set to byte 0", |edition, facts, out| {
         stored(edition, facts, out, |card| card[WRITTEN] = card[LEAST])
     }),
@@ -67,6 +101,17 @@ pub const WRONG: &[Wrong] = &[
     writes("the access not stored", |edition, facts, out| {
         stored(edition, facts, out, |card| card[ACCESS] = 0)
     }),
+    writes("the access not stored at 3", |edition, facts, out| {
+        stored(edition, facts, out, |card| {
+            if edition == 3 {
+                card[ACCESS] = 0;
+            }
+        })
+    }),
+    writes(
+        "the older full range stored as full",
+        |edition, facts, out| stored(edition, facts, out, |card| card[4] = card[4].min(2)),
+    ),
     writes("community stored for open", |edition, facts, out| {
         stored(edition, facts, out, |card| {
             card[ACCESS] = card[ACCESS].min(1)

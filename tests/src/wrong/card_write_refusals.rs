@@ -6,7 +6,7 @@ use reference::card::Facts;
 use crate::card::{expected_write, ACCESS, ITEM, SIZE, WRITTEN};
 use crate::guarded::Guarded;
 use crate::layouts::DEPTH;
-use crate::plain::card::{least, written, WritingRow, WRITING};
+use crate::plain::card::{lacks_access, lacks_layout, least, written, WritingRow, WRITING};
 use crate::plain::layout::is_valid;
 
 use super::card_write::{stored, writes};
@@ -20,7 +20,14 @@ pub const WRONG: &[Wrong] = &[
     writes(
         "later editions write",
         |edition, facts, out| match edition {
-            3.. => stored(2, facts, out, |card| card[WRITTEN] = 3),
+            4.. => stored(3, facts, out, |card| card[WRITTEN] = edition),
+            _ => expected_write(edition, facts, out),
+        },
+    ),
+    writes(
+        "edition 3 writes nothing",
+        |edition, facts, out| match edition {
+            3 => -7,
             _ => expected_write(edition, facts, out),
         },
     ),
@@ -31,7 +38,7 @@ pub const WRONG: &[Wrong] = &[
     writes(
         "an access above 2 stored",
         |edition, facts, out| match facts.access {
-            3.. if edition == 2 => {
+            3.. if edition == 2 || edition == 3 => {
                 let open = Facts { access: 2, ..facts };
                 let answer = expected_write(edition, open, out);
                 if answer == 0 {
@@ -102,7 +109,7 @@ pub const WRONG: &[Wrong] = &[
     }),
     writes("height 4,096 refused", |edition, facts, out| {
         match facts.height {
-            4096 if (1..=2).contains(&edition) => -9,
+            4096 if (1..=3).contains(&edition) => -9,
             _ => expected_write(edition, facts, out),
         }
     }),
@@ -123,34 +130,78 @@ pub const WRONG: &[Wrong] = &[
         },
     ),
     // Refusal 11.
-    writes("11 for 12 bits only", |edition, facts, out| {
-        let row: WritingRow = (11, |edition, facts, _| {
-            edition == 1 && facts.layout[DEPTH] == 12
-        });
+    writes("11 for the layout only", |edition, facts, out| {
+        let row: WritingRow = (11, |edition, facts, _| lacks_layout(edition, facts));
         written(edition, facts, out, &exchanged(2, row), least)
     }),
     writes("11 for the access only", |edition, facts, out| {
-        let row: WritingRow = (11, |edition, facts, _| edition == 1 && facts.access != 0);
+        let row: WritingRow = (11, |edition, facts, _| lacks_access(edition, facts));
         written(edition, facts, out, &exchanged(2, row), least)
     }),
     writes("11 for open only", |edition, facts, out| {
         let row: WritingRow = (11, |edition, facts, _| {
-            edition == 1 && (facts.layout[DEPTH] == 12 || facts.access == 2)
+            lacks_layout(edition, facts) || edition == 1 && facts.access == 2
         });
         written(edition, facts, out, &exchanged(2, row), least)
     }),
     writes("11 for 10 bits", |edition, facts, out| {
         let row: WritingRow = (11, |edition, facts, _| {
-            edition == 1 && (facts.layout[DEPTH] > 8 || facts.access != 0)
+            lacks_layout(edition, facts)
+                || lacks_access(edition, facts)
+                || edition == 1 && facts.layout[DEPTH] == 10
         });
         written(edition, facts, out, &exchanged(2, row), least)
     }),
-    writes("11 at edition 2", |edition, facts, out| {
+    writes("11 for 12 bits at edition 2", |edition, facts, out| {
         let row: WritingRow = (11, |edition, facts, _| {
-            edition == 1 && facts.access != 0 || facts.layout[DEPTH] == 12
+            lacks_layout(edition, facts)
+                || lacks_access(edition, facts)
+                || edition == 2 && facts.layout[DEPTH] == 12
         });
         written(edition, facts, out, &exchanged(2, row), least)
     }),
+    writes("early captures written at 2", |edition, facts, out| {
+        let row: WritingRow = (11, |edition, facts, _| {
+            edition == 1 && lacks_layout(edition, facts) || lacks_access(edition, facts)
+        });
+        written(edition, facts, out, &exchanged(2, row), least)
+    }),
+    writes(
+        "early captures of 8 bits written at 2",
+        |edition, facts, out| {
+            let row: WritingRow = (11, |edition, facts, _| {
+                let early = edition == 2 && facts.layout[DEPTH] == 8;
+                lacks_layout(edition, facts) && !early || lacks_access(edition, facts)
+            });
+            written(edition, facts, out, &exchanged(2, row), least)
+        },
+    ),
+    writes("early captures written at 1", |edition, facts, out| {
+        let row: WritingRow = (11, |edition, facts, _| {
+            let early = edition == 1 && facts.layout[DEPTH] != 12;
+            lacks_layout(edition, facts) && !early || lacks_access(edition, facts)
+        });
+        written(edition, facts, out, &exchanged(2, row), least)
+    }),
+    writes("11 for early captures at 3", |edition, facts, out| {
+        let row: WritingRow = (11, |edition, facts, _| {
+            lacks_layout(edition.min(2), facts) || lacks_access(edition, facts)
+        });
+        written(edition, facts, out, &exchanged(2, row), least)
+    }),
+    writes("11 for an access at 3", |edition, facts, out| {
+        let row: WritingRow = (11, |edition, facts, _| {
+            lacks_layout(edition, facts) || edition != 2 && facts.access != 0
+        });
+        written(edition, facts, out, &exchanged(2, row), least)
+    }),
+    writes(
+        "9 for early captures at 2",
+        |edition, facts, out| match expected_write(edition, facts, out) {
+            -11 if edition == 2 => -9,
+            answer => answer,
+        },
+    ),
     writes("every access closed by edition 1", |edition, facts, out| {
         let access = match edition {
             1 => facts.access / 3,

@@ -4,7 +4,7 @@ use reference::quantization::{Kind, Range, Scale};
 
 use crate::color::expected_convert;
 use crate::plain::color::{converted, half_up, made_scales, weights, Pieces, Ratio, ONE, PIECES};
-use crate::plain::quantization::line;
+use crate::plain::quantization::{line, top};
 
 use super::converts::converts;
 use super::Wrong;
@@ -113,16 +113,76 @@ const PAIRS: &[[Wrong; 2]] = &[
         },
     ),
     converts(
-        "the older full range",
+        "the older full range for the full",
         |direction, conversion, codes, out| {
             let pieces = Pieces {
                 line: |scale| match (scale.range, line(scale)) {
                     (Range::Full, (step, base)) => (step + 1, base),
-                    (Range::Narrow, line) => line,
+                    (_, line) => line,
                 },
                 ..PIECES
             };
             converted(direction, conversion, codes, out, pieces)
+        },
+    ),
+    converts(
+        "full range for the older",
+        |direction, conversion, codes, out| {
+            let pieces = Pieces {
+                line: |scale| match (scale.range, line(scale)) {
+                    (Range::LegacyFull, (step, base)) => (step - 1, base),
+                    (_, line) => line,
+                },
+                ..PIECES
+            };
+            converted(direction, conversion, codes, out, pieces)
+        },
+    ),
+    converts(
+        "128 as the base of older differences",
+        |direction, conversion, codes, out| {
+            let pieces = Pieces {
+                line: |scale| match (scale.range, scale.kind) {
+                    (Range::LegacyFull, Kind::Difference) => (line(scale).0, 128),
+                    _ => line(scale),
+                },
+                ..PIECES
+            };
+            converted(direction, conversion, codes, out, pieces)
+        },
+    ),
+    converts(
+        "the older full range clamped to 4095",
+        |direction, conversion, codes, out| {
+            let pieces = Pieces {
+                top: |scale| (1 << scale.depth) - 1,
+                ..PIECES
+            };
+            converted(direction, conversion, codes, out, pieces)
+        },
+    ),
+    converts(
+        "full range clamped to 4092",
+        |direction, conversion, codes, out| {
+            let pieces = Pieces {
+                top: |scale| match scale.depth {
+                    12 if scale.range != Range::Narrow => 4092,
+                    _ => top(scale),
+                },
+                ..PIECES
+            };
+            converted(direction, conversion, codes, out, pieces)
+        },
+    ),
+    converts(
+        "given codes over 4092 taken for it",
+        |direction, conversion, codes, out| {
+            let mut given = codes.clone();
+            if let [_, 12, 3, _] = conversion {
+                let over = given.output().iter_mut().filter(|code| **code < 4096);
+                over.for_each(|code| *code = (*code).min(4092));
+            }
+            expected_convert(direction, conversion, &mut given, out)
         },
     ),
     converts(
@@ -246,6 +306,6 @@ fn nominal(scale: Scale) -> [u16; 2] {
     match (scale.range, scale.kind) {
         (Range::Narrow, Kind::Brightness) => [16 * s, 235 * s],
         (Range::Narrow, Kind::Difference) => [16 * s, 240 * s],
-        (Range::Full, _) => [0, (1 << scale.depth) - 1],
+        (Range::Full | Range::LegacyFull, _) => [0, (1 << scale.depth) - 1],
     }
 }

@@ -130,7 +130,7 @@ const PAIRS: &[[Wrong; 2]] = &[
     converts(
         "the given range for both",
         |direction, conversion, codes, out| match conversion {
-            [primaries, depth, range_in, 1 | 2] => {
+            [primaries, depth, range_in, 1..=3] => {
                 let conversion = [primaries, depth, range_in, range_in];
                 expected_convert(direction, conversion, codes, out)
             }
@@ -140,7 +140,7 @@ const PAIRS: &[[Wrong; 2]] = &[
     converts(
         "the made range for both",
         |direction, conversion, codes, out| match conversion {
-            [primaries, depth, 1 | 2, range_out] => {
+            [primaries, depth, 1..=3, range_out] => {
                 let conversion = [primaries, depth, range_out, range_out];
                 expected_convert(direction, conversion, codes, out)
             }

@@ -44,10 +44,10 @@ const PAIRS: &[[Wrong; 2]] = &[
         "one triple of one conversion one off",
         |direction, conversion, codes, out| {
             let count = expected_convert(direction, conversion, codes, out);
-            if count > 0 && conversion == [1, 8, 1, 2] {
+            if count > 0 && conversion == [1, 8, 1, 3] {
                 let points = codes.elements().chunks(3).zip(out.output().chunks_mut(3));
                 for (given, made) in points {
-                    if given == [120, 130, 140] {
+                    if given == [120, 135, 150] {
                         made[1] += 1;
                     }
                 }

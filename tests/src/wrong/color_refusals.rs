@@ -31,7 +31,7 @@ const PAIRS: &[[Wrong; 2]] = &[
     converts(
         "the given range not tested",
         |direction, [primaries, depth, range_in, range_out], codes, out| {
-            let range_in = if range_in == 1 { 1 } else { 2 };
+            let range_in = if let 1..=3 = range_in { range_in } else { 2 };
             let conversion = [primaries, depth, range_in, range_out];
             expected_convert(direction, conversion, codes, out)
         },
@@ -39,9 +39,50 @@ const PAIRS: &[[Wrong; 2]] = &[
     converts(
         "the made range not tested",
         |direction, [primaries, depth, range_in, range_out], codes, out| {
-            let range_out = if range_out == 1 { 1 } else { 2 };
+            let range_out = if let 1..=3 = range_out { range_out } else { 2 };
             let conversion = [primaries, depth, range_in, range_out];
             expected_convert(direction, conversion, codes, out)
+        },
+    ),
+    converts(
+        "range 4 taken for 3, given",
+        |direction, [primaries, depth, range_in, range_out], codes, out| {
+            let range_in = if range_in == 4 { 3 } else { range_in };
+            let conversion = [primaries, depth, range_in, range_out];
+            expected_convert(direction, conversion, codes, out)
+        },
+    ),
+    converts(
+        "range 3 refused, given",
+        |direction, conversion, codes, out| match conversion {
+            [_, _, 3, _] => refused(Refusal::Outside),
+            _ => expected_convert(direction, conversion, codes, out),
+        },
+    ),
+    converts(
+        "range 3 refused, made",
+        |direction, conversion, codes, out| match conversion {
+            [_, _, _, 3] => refused(Refusal::Outside),
+            _ => expected_convert(direction, conversion, codes, out),
+        },
+    ),
+    converts(
+        "range 3 beside another refused",
+        |direction, conversion, codes, out| match conversion {
+            [_, _, 3, 1 | 2] | [_, _, 1 | 2, 3] => refused(Refusal::Outside),
+            _ => expected_convert(direction, conversion, codes, out),
+        },
+    ),
+    converts(
+        "given codes over 4092 refused",
+        |direction, conversion, codes, out| match conversion {
+            [_, 12, 3, _] if codes.elements().iter().any(|&code| code > 4092) => {
+                match expected_convert(direction, conversion, codes, &mut out.clone()) {
+                    0.. => refused(Refusal::CodeTooHigh),
+                    refusal => refusal,
+                }
+            }
+            _ => expected_convert(direction, conversion, codes, out),
         },
     ),
     converts(
@@ -63,7 +104,7 @@ const PAIRS: &[[Wrong; 2]] = &[
     converts(
         "two ranges outside accepted together",
         |direction, conversion, codes, out| match conversion {
-            [primaries, depth, 0, 3] => {
+            [primaries, depth, 0, 4] => {
                 expected_convert(direction, [primaries, depth, 1, 2], codes, out)
             }
             _ => expected_convert(direction, conversion, codes, out),

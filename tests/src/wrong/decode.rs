@@ -4,7 +4,7 @@ use reference::lines;
 use reference::refusal::Refusal;
 
 use crate::guarded::Guarded;
-use crate::layouts::{bytes_a_point, DEPTH, OFFSETS, PRIMARIES, RANGE};
+use crate::layouts::{bytes_a_point, DEPTH, LEGACY, OFFSETS, PRIMARIES, RANGE};
 use crate::library::{Layout, Library};
 use crate::lines::{answer, expected_decode_line, expected_decode_point};
 use crate::plain::lines::decoded;
@@ -77,6 +77,43 @@ pub const WRONG: &[Wrong] = &[
         }
         expected_decode_line(other, packed, out)
     }),
+    decodes(
+        "full range for the older, decoding",
+        |layout, packed, out| {
+            let mut other = layout;
+            if layout[RANGE] == LEGACY {
+                other[RANGE] = 2;
+            }
+            expected_decode_line(other, packed, out)
+        },
+    ),
+    decodes(
+        "older codes over 4092 decoded as it",
+        |layout, packed, out| {
+            let count = expected_decode_line(layout, packed, out);
+            if count > 0 && (layout[RANGE], layout[DEPTH]) == (LEGACY, 12) {
+                let [brightness, difference] = [4092.0f32, 2044.0].map(|code| code / 4096.0);
+                let tops = match layout {
+                    [1, ..] => [brightness; 3],
+                    _ => [brightness, difference, difference],
+                };
+                for (bits, top) in out.output().iter_mut().zip(tops.iter().cycle()) {
+                    *bits = f32::from_bits(*bits).min(*top).to_bits();
+                }
+            }
+            count
+        },
+    ),
+    decodes_points(
+        "full range for the older, decoding a point",
+        |layout, bytes, out| {
+            let mut other = layout;
+            if layout[RANGE] == LEGACY {
+                other[RANGE] = 2;
+            }
+            expected_decode_point(other, bytes, out)
+        },
+    ),
     decodes("a product with the reciprocal", |layout, packed, out| {
         decoded(layout, packed, out, line, |p, q| p * (1.0 / q))
     }),
@@ -239,6 +276,20 @@ pub const WRONG: &[Wrong] = &[
         }
         expected_decode_point(changed, bytes, out)
     }),
+    decodes("range 4 decoded as 3", |layout, packed, out| {
+        let mut changed = layout;
+        if layout[RANGE] == 4 {
+            changed[RANGE] = LEGACY;
+        }
+        expected_decode_line(changed, packed, out)
+    }),
+    decodes(
+        "range 3 refused, decoding",
+        |layout, packed, out| match layout[RANGE] {
+            LEGACY => refused(Refusal::Outside),
+            _ => expected_decode_line(layout, packed, out),
+        },
+    ),
     decodes("everything refused", |_, _, _| refused(Refusal::Outside)),
     decodes_points("every point refused", |_, _, _| refused(Refusal::Outside)),
 ];

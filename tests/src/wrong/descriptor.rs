@@ -4,7 +4,7 @@ use reference::refusal::Refusal;
 
 use crate::descriptor::{expected_read, expected_write, SIZE};
 use crate::guarded::Guarded;
-use crate::layouts::{BYTES, DEPTH, MODEL, OFFSETS, RANGE};
+use crate::layouts::{BYTES, DEPTH, LEGACY, MODEL, OFFSETS, RANGE, RANGES};
 use crate::library::{Layout, Library};
 use crate::plain::descriptor::{formed, limits, read, rising, stated, with_range, written};
 use crate::quantization::refused;
@@ -51,6 +51,75 @@ pub const WRONG: &[Wrong] = &[
         written(layout, out, rising, |layout, channel| {
             let [lower, upper] = limits(layout, channel);
             [lower, upper + u32::from(layout[RANGE] == 2)]
+        })
+    }),
+    writes("the older full range up to 2^n - 1", |layout, out| {
+        written(layout, out, rising, limits_to_greatest)
+    }),
+    reads("2^n - 1 stating range 3", |bytes, out| {
+        let answer = expected_read(bytes, out);
+        if answer == 0 && out.output()[RANGE] == 2 {
+            out.output()[RANGE] = LEGACY;
+        }
+        answer
+    }),
+    reads("2^n not read, 2^n - 1 read as full", |bytes, out| {
+        read(bytes, out, rising, limits_to_greatest)
+    }),
+    reads("2^n stating range 2", |bytes, out| {
+        let answer = expected_read(bytes, out);
+        if answer == 0 && out.output()[RANGE] == LEGACY {
+            out.output()[RANGE] = 2;
+        }
+        answer
+    }),
+    reads("both full ranges mixed", |bytes, out| {
+        match expected_read(bytes, out) {
+            -6 => changed(bytes, out, |bytes| {
+                let full = formed(with_range(stated(bytes), 2), rising, limits);
+                let older = formed(with_range(stated(bytes), LEGACY), rising, limits);
+                for sample in [28..44, 44..60, 60..76] {
+                    if bytes[sample.clone()] == older[sample.clone()] {
+                        bytes[sample.clone()].copy_from_slice(&full[sample]);
+                    }
+                }
+            }),
+            answer => answer,
+        }
+    }),
+    reads(
+        "2^n + 1 stating range 3",
+        |bytes, out| match expected_read(bytes, out) {
+            -6 => changed(bytes, out, |bytes| {
+                let one_less = [40, 56, 72].map(|place| bytes[place].wrapping_sub(1));
+                let older = formed(with_range(stated(bytes), LEGACY), rising, limits);
+                let mut lowered = *bytes;
+                for (place, byte) in [40, 56, 72].into_iter().zip(one_less) {
+                    lowered[place] = byte;
+                }
+                if lowered == older {
+                    *bytes = older;
+                }
+            }),
+            answer => answer,
+        },
+    ),
+    writes("range 3 refused, writing", |layout, out| {
+        match layout[RANGE] {
+            LEGACY => refused(Refusal::Outside),
+            _ => expected_write(layout, out),
+        }
+    }),
+    writes("range 4 written as 3", |layout, out| match layout[RANGE] {
+        4 => expected_write(with_range(layout, LEGACY), out),
+        _ => expected_write(layout, out),
+    }),
+    writes("4092 stated at 12 bits", |layout, out| {
+        written(layout, out, rising, |layout, channel| {
+            match (layout[RANGE], layout[DEPTH]) {
+                (LEGACY, 12) => [0, 4092],
+                _ => limits(layout, channel),
+            }
         })
     }),
     reads(
@@ -281,13 +350,19 @@ fn changed(bytes: &[u8], out: &mut Guarded<u8>, change: impl FnOnce(&mut [u8; SI
 /// Reads with the limits of all samples made those of the first one's range.
 fn of_first_sample(bytes: &[u8], out: &mut Guarded<u8>) -> i64 {
     changed(bytes, out, |bytes| {
-        for range in [1, 2] {
+        for range in RANGES {
             let like = formed(with_range(stated(bytes), range), rising, limits);
             if bytes[28..44] == like[28..44] {
                 *bytes = like;
             }
         }
     })
+}
+
+/// The older full range's numbers as the full range's.
+fn limits_to_greatest(layout: Layout, channel: usize) -> [u32; 2] {
+    let [lower, upper] = limits(layout, channel);
+    [lower, upper - u32::from(layout[RANGE] == LEGACY)]
 }
 
 fn limits_with_235(layout: Layout, channel: usize) -> [u32; 2] {

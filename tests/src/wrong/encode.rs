@@ -4,11 +4,11 @@ use reference::lines;
 use reference::refusal::Refusal;
 
 use crate::guarded::Guarded;
-use crate::layouts::{bytes_a_point, OFFSETS, PRIMARIES};
-use crate::library::{Layout, Library};
+use crate::layouts::{bytes_a_point, LEGACY, OFFSETS, PRIMARIES, RANGE};
+use crate::library::{Layout, Library, Setting};
 use crate::lines::{answer, expected_encode_line, expected_encode_point};
 use crate::plain::lines::{encoded, place, store_fields};
-use crate::plain::quantization::{line, numbered};
+use crate::plain::quantization::{clamped, half_up, line, numbered, on_line};
 use crate::quantization::refused;
 
 use super::points::keeping_from;
@@ -63,6 +63,35 @@ pub const WRONG: &[Wrong] = &[
             })
         })
     }),
+    encodes(
+        "full range for the older, encoding",
+        |layout, values, out| {
+            let mut other = layout;
+            if layout[RANGE] == LEGACY {
+                other[RANGE] = 2;
+            }
+            expected_encode_line(other, values, out)
+        },
+    ),
+    encodes(
+        "the older full range clamped to 4095, encoding",
+        |layout, values, out| encoded(layout, values, out, to_greatest),
+    ),
+    encodes_points(
+        "the older full range clamped to 4095, a point",
+        |layout, values, out| encoded(layout, &values, out, to_greatest),
+    ),
+    encodes(
+        "full range clamped to 4092, encoding",
+        |layout, values, out| {
+            encoded(layout, values, out, |setting, value| {
+                match ((REFERENCE.quantize)(setting, value), setting) {
+                    (4093.., [_, 2, 12, _]) => 4092,
+                    (answer, _) => answer,
+                }
+            })
+        },
+    ),
     encodes(
         "all channels on the scale of channel 0",
         |layout, values, out| {
@@ -230,6 +259,13 @@ pub const WRONG: &[Wrong] = &[
         changed[PRIMARIES] = 1;
         expected_encode_line(changed, values, out)
     }),
+    encodes(
+        "range 3 refused, encoding",
+        |layout, values, out| match layout[RANGE] {
+            LEGACY => refused(Refusal::Outside),
+            _ => expected_encode_line(layout, values, out),
+        },
+    ),
     encodes("everything refused", |_, _, _| refused(Refusal::Outside)),
     encodes_points("every point refused", |_, _, _| refused(Refusal::Outside)),
 ];
@@ -254,6 +290,12 @@ const fn encodes_points(
         ..REFERENCE
     };
     (mistake, library)
+}
+
+/// The code of a value, clamped to 2^n - 1 in every range.
+fn to_greatest(setting: Setting, value: f32) -> i64 {
+    let number = |scale, value| half_up(on_line(line(scale), value));
+    clamped(setting, value, number, |scale| (1 << scale.depth) - 1)
 }
 
 fn bits(values: &[f32]) -> Vec<u32> {

@@ -35,6 +35,28 @@ pub const WRONG: &[Wrong] = &[
         let edition = if edition == 3 { 2 } else { edition };
         expected_rewrite(card, edition, out)
     }),
+    rewrites("edition 4 rewrites as 3", |card, edition, out| {
+        let edition = if edition == 4 { 3 } else { edition };
+        expected_rewrite(card, edition, out)
+    }),
+    rewrites("edition 3 not known", |card, edition, out| {
+        let edition = if edition == 3 { 4 } else { edition };
+        expected_rewrite(card, edition, out)
+    }),
+    rewrites("access lost at edition 3", |card, edition, out| {
+        accepted(card, edition, out, |_, out| {
+            if edition == 3 {
+                out[ACCESS] = 0;
+            }
+        })
+    }),
+    rewrites(
+        "early captures rewritten at 2",
+        |card, edition, out| match expected_rewrite(card, edition, out) {
+            -8 if edition == 2 => expected_rewrite(card, 3, out),
+            answer => answer,
+        },
+    ),
     rewrites("edition 255 rewrites as 1", |card, edition, out| {
         let edition = if edition == 255 { 1 } else { edition };
         expected_rewrite(card, edition, out)
@@ -69,10 +91,24 @@ pub const WRONG: &[Wrong] = &[
         }
         answer
     }),
-    reads("reading at edition 4 as at 2", |card, edition, told| {
-        let edition = if edition == 4 { 2 } else { edition };
+    reads("reading at edition 4 as at 3", |card, edition, told| {
+        let edition = if edition == 4 { 3 } else { edition };
         expected_read(card, edition, told)
     }),
+    reads("access hidden at edition 3", |card, edition, told| {
+        let answer = expected_read(card, edition, told);
+        if answer == 0 && edition == 3 {
+            told.facts.output()[3] = 0;
+        }
+        answer
+    }),
+    reads(
+        "early captures read at 2",
+        |card, edition, told| match expected_read(card, edition, told) {
+            -8 if edition == 2 => expected_read(card, 3, told),
+            answer => answer,
+        },
+    ),
     replays("the first card kept", |asked| {
         let answer = expected_replay(asked);
         if answer == 0 {
@@ -85,6 +121,23 @@ pub const WRONG: &[Wrong] = &[
         asked.last = asked.first;
         let answer = expected_replay(asked);
         asked.last = last;
+        answer
+    }),
+    replays("the last reading at 3 as at 2", |asked| {
+        let last = asked.last;
+        asked.last = if last == 3 { 2 } else { last };
+        let answer = expected_replay(asked);
+        asked.last = last;
+        answer
+    }),
+    replays("13 for 8, rewriting early captures", |asked| {
+        let answer = expected_replay(asked);
+        if asked.facts.layout[2] == 3 {
+            let refused = asked.answers.output().iter_mut();
+            refused
+                .filter(|number| **number == 8)
+                .for_each(|number| *number = 13);
+        }
         answer
     }),
     replays("the last answer not stored", |asked| {
@@ -125,6 +178,18 @@ pub const WRONG: &[Wrong] = &[
         },
     ),
     (
+        "early captures decoded in full range",
+        Library {
+            decode_line: |layout, packed, values| {
+                let [model, primaries, range, others @ ..] = layout;
+                let [depth, bytes, a, b, c] = others;
+                let layout = [model, primaries, range.min(2), depth, bytes, a, b, c];
+                expected_decode_line(layout, packed, values)
+            },
+            ..REFERENCE
+        },
+    ),
+    (
         "a count of three bytes a point",
         Library {
             decode_line: |layout, packed, values| match expected_decode_line(layout, packed, values)
@@ -139,6 +204,16 @@ pub const WRONG: &[Wrong] = &[
         "first written at 2 whatever the edition",
         Library {
             card_write: |_, facts, out| expected_write(2, facts, out),
+            ..REFERENCE
+        },
+    ),
+    (
+        "first written at 2 where 3 is asked and 2 can",
+        Library {
+            card_write: |edition, facts, out| match expected_write(edition.min(2), facts, out) {
+                0 => 0,
+                _ => expected_write(edition, facts, out),
+            },
             ..REFERENCE
         },
     ),

@@ -3,7 +3,7 @@
 use reference::card;
 use reference::stack;
 
-use crate::card::SIZE;
+use crate::card::{LEAST, SIZE, WRITTEN};
 use crate::library::program::StackList;
 use crate::library::Library;
 use crate::list::EXPECTED_LIST;
@@ -83,20 +83,13 @@ pub const WRONG: &[Wrong] = &[
             .chain([b'\n'])
             .collect()
     }),
-    lists("read at edition 1", |pieces| {
-        let stack = pieces.concat();
-        let text = stack::list(&stack);
-        if !text.starts_with("cards") {
-            return text.into_bytes();
-        }
-        let mut read = format!("cards {}\n", stack.len() / SIZE);
-        for card in stack.chunks(SIZE) {
-            read += &match card::read(card, 1) {
-                Ok(facts) => format!("{} closed {}x{}\n", facts.item, facts.width, facts.height),
-                Err(refusal) => format!("- refused {}\n", refusal.number()),
-            };
-        }
-        read.into_bytes()
+    lists("read at edition 1", |pieces| read_at(pieces, |_| 1)),
+    lists("read at edition 2", |pieces| read_at(pieces, |_| 2)),
+    lists("read at the writer's edition", |pieces| {
+        read_at(pieces, |card| card[WRITTEN].clamp(1, 3))
+    }),
+    lists("read at the least edition", |pieces| {
+        read_at(pieces, |card| card[LEAST].clamp(1, 3))
     }),
     lists("refused cards not listed", |pieces| {
         edited(pieces, |line| match line.starts_with('-') {
@@ -135,7 +128,7 @@ pub const WRONG: &[Wrong] = &[
         let stack = pieces.concat();
         let accepted = stack
             .chunks(SIZE)
-            .filter(|card| card::read(card, 2).is_ok())
+            .filter(|card| card::read(card, card::NEWEST).is_ok())
             .count();
         edited(pieces, |line| match line.strip_prefix("cards ") {
             Some(_) => format!("cards {accepted}"),
@@ -260,6 +253,26 @@ fn same_size(width: u16, height: u16) -> [u16; 2] {
 
 fn same_item(item: u64) -> u64 {
     item
+}
+
+/// The list with each card read at an edition.
+fn read_at(pieces: &[&[u8]], edition: fn(&[u8]) -> u8) -> Vec<u8> {
+    let stack = pieces.concat();
+    let text = stack::list(&stack);
+    if !text.starts_with("cards") {
+        return text.into_bytes();
+    }
+    let mut read = format!("cards {}\n", stack.len() / SIZE);
+    for card in stack.chunks(SIZE) {
+        read += &match card::read(card, edition(card)) {
+            Ok(facts) => {
+                let word = WORDS[usize::from(facts.access)];
+                format!("{} {word} {}x{}\n", facts.item, facts.width, facts.height)
+            }
+            Err(refusal) => format!("- refused {}\n", refusal.number()),
+        };
+    }
+    read.into_bytes()
 }
 
 /// The list with each line edited.

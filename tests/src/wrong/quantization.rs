@@ -4,7 +4,9 @@ use reference::quantization::{Kind, Range, Scale};
 use reference::refusal::Refusal;
 
 use crate::library::{Library, Setting, Slot, FLOAT};
-use crate::plain::quantization::{divided, half_up, line, numbered, on_line, rounded};
+use crate::plain::quantization::{
+    clamped, divided, half_up, line, numbered, on_line, rounded, top,
+};
 use crate::quantization::{expected_dequantize, expected_quantize, refused, scale};
 
 use super::{Wrong, REFERENCE};
@@ -21,8 +23,18 @@ pub const WRONG: &[Wrong] = &[
         "128 as the base of full-range difference",
         |setting, value| rounded(setting, value, line_with_base_128, half_up),
     ),
-    quantizes("the older full range", |setting, value| {
+    quantizes("the older full range for the full", |setting, value| {
         rounded(setting, value, older_line, half_up)
+    }),
+    // It rounds as the older one's formula does, wherever the clamp lets it show.
+    quantizes("full range for the older", |setting, value| {
+        rounded(setting, value, newer_line, half_up)
+    }),
+    quantizes("128 as the base of older differences", |setting, value| {
+        rounded(setting, value, older_line_with_base_128, half_up)
+    }),
+    quantizes("older differences without their half", |setting, value| {
+        rounded(setting, value, older_line_without_half, half_up)
     }),
     quantizes(
         "only 8 bits right",
@@ -68,6 +80,56 @@ pub const WRONG: &[Wrong] = &[
             Ok(scale) if value.is_finite() => half_up(on_line(line(scale), value)).max(0.0) as i64,
             _ => expected_quantize(setting, value.to_bits()),
         }
+    }),
+    quantizes("the older full range clamped to 4095", |setting, value| {
+        clamped(setting, value, right_number, |scale| (1 << scale.depth) - 1)
+    }),
+    quantizes("every older top three under 2^n - 1", |setting, value| {
+        clamped(setting, value, right_number, |scale| match scale.range {
+            Range::LegacyFull => (1 << scale.depth) - 4,
+            _ => top(scale),
+        })
+    }),
+    quantizes("full range clamped to 4092", |setting, value| {
+        clamped(setting, value, right_number, |scale| match scale.depth {
+            12 if scale.range != Range::Narrow => 4092,
+            _ => top(scale),
+        })
+    }),
+    quantizes("narrow clamped to 4092", |setting, value| {
+        clamped(setting, value, right_number, |scale| match scale.depth {
+            12 if scale.range != Range::Full => 4092,
+            _ => top(scale),
+        })
+    }),
+    quantizes(
+        "older brightness alone clamped to 4092",
+        |setting, value| {
+            clamped(setting, value, right_number, |scale| match scale.kind {
+                Kind::Brightness => top(scale),
+                Kind::Difference => (1 << scale.depth) - 1,
+            })
+        },
+    ),
+    quantizes(
+        "plus infinity to 4095",
+        |setting, value| match expected_quantize(setting, value.to_bits()) {
+            4092 if value == f32::INFINITY => 4095,
+            code => code,
+        },
+    ),
+    quantizes("4093 to 4095 kept", |setting, value| {
+        // As if what was decoded always came back.
+        let kept = clamped(setting, value, right_number, |scale| (1 << scale.depth) - 1);
+        match value {
+            0.999..1.0 => kept,
+            _ => expected_quantize(setting, value.to_bits()),
+        }
+    }),
+    quantizes("one older tie rounded down", |setting, value| {
+        let code = expected_quantize(setting, value.to_bits());
+        let tie = setting == [2, 3, 10, 1] && value == 0.5 / 1024.0;
+        code - i64::from(tie)
     }),
     quantizes("narrow clamped to its nominal range", |setting, value| {
         let code = expected_quantize(setting, value.to_bits());
@@ -159,8 +221,36 @@ pub const WRONG: &[Wrong] = &[
         "128 as the base of full-range difference",
         |setting, code, slot| divided(setting, code, slot, line_with_base_128, |p, q| p / q),
     ),
-    dequantizes("the older full range", |setting, code, slot| {
-        divided(setting, code, slot, older_line, |p, q| p / q)
+    dequantizes(
+        "the older full range for the full",
+        |setting, code, slot| divided(setting, code, slot, older_line, |p, q| p / q),
+    ),
+    dequantizes("full range for the older", |setting, code, slot| {
+        divided(setting, code, slot, newer_line, |p, q| p / q)
+    }),
+    dequantizes(
+        "128 as the base of older differences",
+        |setting, code, slot| divided(setting, code, slot, older_line_with_base_128, |p, q| p / q),
+    ),
+    dequantizes(
+        "older differences without their half",
+        |setting, code, slot| divided(setting, code, slot, older_line_without_half, |p, q| p / q),
+    ),
+    dequantizes("4093 to 4095 decoded as 4092", |setting, code, slot| {
+        let code = match (setting, code) {
+            ([_, 3, 12, _], 4093..=4095) => 4092,
+            _ => code,
+        };
+        expected_dequantize(setting, code, slot)
+    }),
+    dequantizes("4093 to 4095 refused", |setting, code, slot| {
+        match (
+            expected_dequantize(setting, code, &mut slot.clone()),
+            setting,
+        ) {
+            (0.., [_, 3, 12, _]) if code > 4092 => refused(Refusal::CodeTooHigh),
+            _ => expected_dequantize(setting, code, slot),
+        }
     }),
     dequantizes(
         "the kinds exchanged",
@@ -211,6 +301,29 @@ pub const WRONG: &[Wrong] = &[
         let depth = if depth == 16 { 12 } else { depth };
         expected_dequantize([model, range, depth, channel], code, slot)
     }),
+    quantizes("range 3 refused", |setting, value| match setting {
+        [_, 3, _, _] => refused(Refusal::Outside),
+        _ => expected_quantize(setting, value.to_bits()),
+    }),
+    dequantizes("range 3 refused", |setting, code, slot| match setting {
+        [_, 3, _, _] => refused(Refusal::Outside),
+        _ => expected_dequantize(setting, code, slot),
+    }),
+    quantizes("range 4 taken for 3", |setting, value| {
+        let [model, range, depth, channel] = setting;
+        let range = if range == 4 { 3 } else { range };
+        expected_quantize([model, range, depth, channel], value.to_bits())
+    }),
+    dequantizes("range 0 taken for 3", |setting, code, slot| {
+        let [model, range, depth, channel] = setting;
+        let range = if range == 0 { 3 } else { range };
+        expected_dequantize([model, range, depth, channel], code, slot)
+    }),
+    dequantizes("range 3 taken for 2 at 8 bits", |setting, code, slot| {
+        let [model, range, depth, channel] = setting;
+        let range = if [range, depth] == [3, 8] { 2 } else { range };
+        expected_dequantize([model, range, depth, channel], code, slot)
+    }),
     dequantizes("model 3 with range 0 accepted", |setting, code, slot| {
         let [model, range, depth, channel] = setting;
         match [model, range] {
@@ -252,12 +365,43 @@ fn line_with_base_128(scale: Scale) -> (i32, i32) {
     (step, if is_full_difference(scale) { 128 } else { base })
 }
 
+/// The full range as the older one.
 fn older_line(scale: Scale) -> (i32, i32) {
     let (step, base) = line(scale);
     match scale.range {
-        Range::Narrow => (step, base),
+        Range::Narrow | Range::LegacyFull => (step, base),
         Range::Full => (step + 1, base),
     }
+}
+
+/// The older full range as the newer one.
+fn newer_line(scale: Scale) -> (i32, i32) {
+    let (step, base) = line(scale);
+    match scale.range {
+        Range::Narrow | Range::Full => (step, base),
+        Range::LegacyFull => (step - 1, base),
+    }
+}
+
+fn older_line_with_base_128(scale: Scale) -> (i32, i32) {
+    let (step, base) = line(scale);
+    match (scale.range, scale.kind) {
+        (Range::LegacyFull, Kind::Difference) => (step, 128),
+        _ => (step, base),
+    }
+}
+
+fn older_line_without_half(scale: Scale) -> (i32, i32) {
+    let (step, base) = line(scale);
+    match scale.range {
+        Range::LegacyFull => (step, 0),
+        _ => (step, base),
+    }
+}
+
+/// The whole number of a value, as it is before it is clamped.
+fn right_number(scale: Scale, value: f32) -> f64 {
+    half_up(on_line(line(scale), value))
 }
 
 fn is_full_difference(scale: Scale) -> bool {

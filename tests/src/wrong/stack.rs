@@ -69,18 +69,31 @@ pub const WRONG: &[Wrong] = &[
         by_bytes(stack, edition, item, |_, _| true)
     }),
     finds("cards of 12 bits found at 1", |stack, edition, item| {
-        by_bytes(stack, edition, item, |card, _| card::read(card, 2).is_ok())
+        by_bytes(stack, edition, item, |card, edition| {
+            card::read(card, edition.max(2)).is_ok()
+        })
     }),
     finds("cards of 12 bits never found", |stack, edition, item| {
         by_bytes(stack, edition, item, |card, edition| {
-            card[LEAST] < 2 && card::read(card, edition).is_ok()
+            card[LEAST] != 2 && card::read(card, edition).is_ok()
+        })
+    }),
+    finds("early captures found at 2", |stack, edition, item| {
+        by_bytes(stack, edition, item, |card, edition| {
+            let edition = if edition == 2 { 3 } else { edition };
+            card::read(card, edition).is_ok()
+        })
+    }),
+    finds("early captures never found", |stack, edition, item| {
+        by_bytes(stack, edition, item, |card, edition| {
+            card[LEAST] != 3 && card::read(card, edition).is_ok()
         })
     }),
     finds(
-        "only cards that both editions read",
+        "only cards that every edition reads",
         |stack, edition, item| {
             by_bytes(stack, edition, item, |card, _| {
-                card::read(card, 1).is_ok() && card::read(card, 2).is_ok()
+                (1..=3).all(|edition| card::read(card, edition).is_ok())
             })
         },
     ),
@@ -93,7 +106,7 @@ pub const WRONG: &[Wrong] = &[
         "cards of later editions passed over",
         |stack, edition, item| {
             by_bytes(stack, edition, item, |card, edition| {
-                card[1] <= 2 && card::read(card, edition).is_ok()
+                card[1] <= edition && card::read(card, edition).is_ok()
             })
         },
     ),

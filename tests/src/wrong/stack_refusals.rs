@@ -64,6 +64,14 @@ pub const WRONG: &[Wrong] = &[
         let edition = if edition == 3 { 2 } else { edition };
         expected_find(stack, edition, item)
     }),
+    finds("edition 4 finds as 3", |stack, edition, item| {
+        let edition = if edition == 4 { 3 } else { edition };
+        expected_find(stack, edition, item)
+    }),
+    finds("edition 3 not known", |stack, edition, item| {
+        let edition = if edition == 3 { 4 } else { edition };
+        expected_find(stack, edition, item)
+    }),
     finds("edition 0 finds as 1", |stack, edition, item| {
         expected_find(stack, edition.max(1), item)
     }),
@@ -78,14 +86,14 @@ pub const WRONG: &[Wrong] = &[
     finds(
         "7 before 1, finding",
         |stack, edition, item| match edition {
-            1..=2 => expected_find(stack, edition, item),
+            1..=3 => expected_find(stack, edition, item),
             _ => -7,
         },
     ),
     finds("15 before 7", |stack, edition, item| {
         match (
             expected_find(stack, edition, item),
-            expected_find(stack, 2, item),
+            expected_find(stack, 3, item),
         ) {
             (-7, -15) => -15,
             (answer, _) => answer,
