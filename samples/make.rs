@@ -25,9 +25,8 @@ const EARLY_8: [u8; 8] = [2, 2, 3, 8, 3, 0, 8, 16];
 /// An early capture by BT.2100-0: R'G'B', BT.2020, range 3, 12 bits in five bytes.
 const EARLY_12: [u8; 8] = [1, 4, 3, 12, 5, 24, 12, 0];
 
-/// The newest edition, at which stacks are listed, and one that comes later.
-const NEWEST: u8 = 3;
-const LATER: u8 = NEWEST + 1;
+/// A later edition than the newest, at which stacks are listed.
+const LATER: u8 = card::NEWEST + 1;
 
 /// Places of a card's bytes.
 const LEAST: usize = 0;
@@ -106,8 +105,14 @@ fn archive() -> Vec<Card> {
         written(2, BITS_12, 4096, 2160, 305_550, CLOSED),
         written(2, BITS_12, 4096, 2160, 305_551, OPEN),
         changed(written(2, BITS_8, 1920, 1080, 203_003, OPEN), &[(DEPTH, 9)]),
-        changed(written(2, BITS_10, 1920, 1080, 412_008, OPEN), &[(WRITER, LATER), (ACCESS, 4), (25, 1)]),
-        changed(written(2, BITS_12, 4096, 2160, 412_009, OPEN), &[(LEAST, LATER), (WRITER, LATER)]),
+        changed(
+            written(2, BITS_10, 1920, 1080, 412_008, OPEN),
+            &[(WRITER, LATER), (ACCESS, 4), (25, 1)],
+        ),
+        changed(
+            written(2, BITS_12, 4096, 2160, 412_009, OPEN),
+            &[(LEAST, LATER), (WRITER, LATER)],
+        ),
         changed(written(2, BITS_8, 720, 576, 100_420, OPEN), &[(ACCESS, 3)]),
         written(3, EARLY_8, 720, 576, 117, COMMUNITY),
     ]
@@ -151,7 +156,10 @@ fn full() -> Vec<Card> {
     // the three are read, with zeros behind.
     for access in 0..=255 {
         cards.push(changed(plain, &[(ACCESS, access)]));
-        cards.push(changed(plain, &[(WRITER, LATER), (ACCESS, access), (31, access)]));
+        cards.push(changed(
+            plain,
+            &[(WRITER, LATER), (ACCESS, access), (31, access)],
+        ));
     }
     for access in [0, 1, 2, 3, 4, 255] {
         cards.push(changed(plain, &[(WRITER, 3), (ACCESS, access)]));
@@ -180,7 +188,10 @@ fn full() -> Vec<Card> {
         }
     }
     for side in 0..=255 {
-        cards.push(changed(plain, &[(WIDTH, side), (WIDTH + 1, side % 18), (ITEM, side)]));
+        cards.push(changed(
+            plain,
+            &[(WIDTH, side), (WIDTH + 1, side % 18), (ITEM, side)],
+        ));
     }
     assert!(cards.len() >= MOST_CARDS, "{} cards", cards.len());
     cards.truncate(MOST_CARDS);

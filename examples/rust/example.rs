@@ -1,6 +1,6 @@
 //! Finds an item in a stack of cards, shows its facts, writes and reads the
-//! descriptor of its layout, and turns a line of its points into colors. Then does
-//! the same with an early capture, and writes its card.
+//! descriptor of its layout, and turns a line of its points into colors. Then turns
+//! a line of an early capture into colors, and writes its card.
 //! Usage: example STACK
 
 use imurraqi::{access, model, primaries, range};

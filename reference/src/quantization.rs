@@ -8,7 +8,7 @@ use crate::refusal::Refusal;
 pub enum Range {
     Narrow,
     Full,
-    /// The older full range, of BT.2100-0 and the first JFIF.
+    /// The older full range, of BT.2100-0 and the old JFIF rule.
     LegacyFull,
 }
 

@@ -1,6 +1,6 @@
 -- The claims of specs/Printed.antt. Assumes nothing.
 use mathlib.Core.Path.{_≡_, refl, sym, ap, ap₂, _∙_}
-use mathlib.Core.Bool.{Bool, true, false, not, cond, _&&_, _||_, false≢true}
+use mathlib.Core.Bool.{Bool, true, false, not, cond, _&&_, _||_, and-false, false≢true}
 use mathlib.Core.List.{List, [], _∷_}
 use Prim.Native.Nat.{ℕ}
 use borrow.Author.Tests.{not-true}
@@ -14,10 +14,10 @@ use Rattle.card_table.specs.Facts.{closed}
 use Rattle.card_table.specs.Table.{cardSize}
 use Rattle.card_reader.specs.declared.CardReading.the-variants.{Shown}
 use Rattle.refusal.specs.declared.Written.{Written}
-use Rattle.card_laws.proofs.Printed.{row-7, by-edition}
+use Rattle.card_laws.proofs.Printed.{row-7, row-8, by-edition}
 use Rattle.custody_book.specs.History.{Rewrite, Asked, Trace, History}
 use Rattle.custody_book.specs.Meaning.{readingOf, refused, notShown, EachRight, EachRight.none, EachRight.each, acceptedAt}
-use Rattle.custody_book.specs.Printed.{Wording, RewriteWorded, EachWorded, EachWorded.none as no-more, EachWorded.each as one-more, Worded, needsHigher, twoOrThree, words, MeansAsPrinted, oneOrTwo, firstWords, PrintedAsFirst, AccessPrinted}
+use Rattle.custody_book.specs.Printed.{Wording, RewriteWorded, EachWorded, EachWorded.none as no-more, EachWorded.each as one-more, Worded, twoOrThree, words, MeansAsPrinted, oneOrTwo, firstWords, PrintedAsFirst, AccessPrinted}
 
 -- ---- one wording for another, where they say the same of every edition that is asked
 
@@ -77,13 +77,12 @@ reworded p w w′ a h same q qs m =
     read g e true r = r
     read g e false r = absurd (false≢true (sym (ap notShown e) ∙ m .others r))
 
--- ---- the definitions, as a wording (`leastEdition` is the edition needed)
+-- ---- the definitions, as a wording
 
 abbrev defined : Wording
-defined = record { known = editionKnown; lacking = needsHigher; keeping = hasAccess }
+defined = record { known = editionKnown; lacking = λ e f. ltb e (leastEdition f); keeping = hasAccess }
 
 each-defined : (f : Facts) {before : List ℕ} {rs : List Rewrite} {s : Trace} → EachRight f before rs s → EachWorded defined f rs s
-unfolding leastEdition
 each-defined f none = no-more
 each-defined f (each {r = r} x xs) = one-more (record { exactly = x .exactly; others = x .others }) (each-defined f xs)
 
@@ -93,13 +92,12 @@ all [] = refl
 all (r ∷ rs) = all rs
 
 pub means-as-printed : MeansAsPrinted
-unfolding leastEdition
 means-as-printed a h m =
     let r = m .reading in
     reworded (λ e. true) defined words a h
     (record {
       known = λ e q. row-7 e;
-      lacking = λ e q k. refl;
+      lacking = λ e q k. row-8 e (a .facts) k;
       keeping = λ e q k. by-edition (λ e. hasAccess e ≡ twoOrThree e) refl refl refl e k;
     })
     refl (all (a .rewrites))
@@ -111,11 +109,10 @@ or-not : (t u : Bool) → not u ≡ true → t || u ≡ t
 or-not true u h = refl
 or-not false u h = not-true u h
 
--- without range 3 (r), and at 1 or 2, a higher edition is needed where 1 is asked about 12 bits (d)
-higher : (r d : Bool) (e : ℕ) → not r ≡ true → editionKnown e ≡ true → not (eqb e 3) ≡ true → ltb e (cond r 3 (cond d 2 1)) ≡ eqb e 1 && d
-higher true d e n k = absurd (false≢true n)
-higher false true e n k = by-edition (λ e. not (eqb e 3) ≡ true → ltb e 2 ≡ eqb e 1 && true) (λ q. refl) (λ q. refl) (λ q. absurd (false≢true q)) e k
-higher false false e n k = by-edition (λ e. not (eqb e 3) ≡ true → ltb e 1 ≡ eqb e 1 && false) (λ q. refl) (λ q. refl) (λ q. absurd (false≢true q)) e k
+-- without range 3 (r), the layout is lacking where 1 is asked about 12 bits (d)
+first-lacking : (r d one two : Bool) → not r ≡ true → one && (r || d) || two && r ≡ one && d
+first-lacking true d one two n = absurd (false≢true n)
+first-lacking false d one two n = or-not (one && d) (two && false) (ap not (and-false two))
 
 pub printed-as-first : PrintedAsFirst
 printed-as-first a h t m =
@@ -124,7 +121,7 @@ printed-as-first a h t m =
     reworded (λ e. not (eqb e 3)) words firstWords a h
     (record {
       known = λ e q. or-not (oneOrTwo e) (eqb e 3) q;
-      lacking = λ e q k. higher (eqb (f .layout .range) 3) (eqb (f .layout .depth) 12) e (early .0) (row-7 e ∙ k) q;
+      lacking = λ e q k. first-lacking (eqb (f .layout .range) 3) (eqb (f .layout .depth) 12) (eqb e 1) (eqb e 2) (early .0);
       keeping = λ e q k. or-not (eqb e 2) (eqb e 3) q;
     })
     (early .1) (early .2) m

@@ -3,7 +3,7 @@ use Prim.Native.Nat.{ℕ}
 use mathlib.Core.Bool.{Bool, true, false, not, cond, _&&_, _||_}
 use mathlib.Core.Path.{_≡_}
 use mathlib.Core.List.{List, [], _∷_}
-use lib.Dec.{eqb, ltb}
+use lib.Dec.{eqb}
 use lib.Ieee.{Float}
 use lib.ListN.{length}
 use Rattle.lists.specs.Lists.{every}
@@ -15,6 +15,7 @@ use Rattle.card_table.specs.Table.{cardSize}
 use Rattle.card_reader.specs.declared.CardReading.{CardReading}
 use Rattle.card_reader.specs.declared.CardReading.the-variants.{Shown}
 use Rattle.refusal.specs.declared.Written.{Written}
+use Rattle.card_laws.specs.Printed.{lacksLayout}
 use Rattle.custody_book.specs.History.{Rewrite, Asked, Trace, Trace.ended, Trace.rewritten, History}
 use Rattle.custody_book.specs.Book.{accessAt}
 use Rattle.custody_book.specs.Meaning.{readingOf, refused, notShown, acceptedAt, Meaning}
@@ -50,23 +51,16 @@ pub record Worded (w : Wording) (a : Asked) (h : History) : Type 0 where
   -- the access shown is the one first given if every accepted rewrite and the last reading were at an edition that keeps it, and closed if not
   pub access : (g : Facts) → readingOf (h .trace) ≡ Shown g → g .access ≡ cond (acceptedAt (w .keeping) (a .rewrites) (h .trace) && w .keeping (a .last)) (a .facts .access) closed
 
--- ---- since A1: an edition lacks the layout where that needs a higher one, and 2 and 3 keep the access
+-- ---- since A1: the layout needs a higher edition than 1 in range 3 and at 12 bits, and than 2 in range 3 (`lacksLayout`); 2 and 3 keep the access
 
 abbrev pub oneToThree : ℕ → Bool
 oneToThree e = eqb e 1 || eqb e 2 || eqb e 3
-
--- the edition that the layout needs: range 3 needs 3, else 12 bits need 2, else it is 1
-abbrev pub needed : Facts → ℕ
-needed f = cond (eqb (f .layout .range) 3) 3 (cond (eqb (f .layout .depth) 12) 2 1)
-
-abbrev pub needsHigher : ℕ → Facts → Bool
-needsHigher e f = ltb e (needed f)
 
 abbrev pub twoOrThree : ℕ → Bool
 twoOrThree e = eqb e 2 || eqb e 3
 
 abbrev pub words : Wording
-words = record { known = oneToThree; lacking = needsHigher; keeping = twoOrThree }
+words = record { known = oneToThree; lacking = λ e f. lacksLayout e (f .layout); keeping = twoOrThree }
 
 abbrev pub Printed : Asked → History → Type 0
 Printed a h = Worded words a h

@@ -30,15 +30,15 @@ white = 64 ∷ 176 ∷ 14 ∷ 252 ∷ []
 abbrev early : Layout
 early = record { model = 2; primaries = 2; range = 3; depth = 12; bytes = 5; offset0 = 0; offset1 = 12; offset2 = 24 }
 
-abbrev excludedCodes : List ℕ
-excludedCodes = 255 ∷ 223 ∷ 255 ∷ 252 ∷ 15 ∷ []
+abbrev last : List ℕ
+last = 255 ∷ 223 ∷ 255 ∷ 252 ∷ 15 ∷ []
 
 -- 1.0, -0.5 and 0.5, and from there the bytes without the two bits; then 4095/4096, 2045/4096 and 2044/4096, and from there the code 4092 three times; then lengths that are none of a point, or of a line
 examples : (valuesOf ten white ≡ ofBits binary32 1065353216 ∷ ofBits binary32 3204448256 ∷ ofBits binary32 1056964608 ∷ [])
     × (packedOf ten (quantizedOf ten (valuesOf ten white)) ≡ 64 ∷ 176 ∷ 14 ∷ 60 ∷ [])
     × (decodePoint ten white ≡ Decoded (record { channel0 = ofBits binary32 1065353216; channel1 = ofBits binary32 3204448256; channel2 = ofBits binary32 1056964608 }))
-    × (valuesOf early excludedCodes ≡ ofBits binary32 1065349120 ∷ ofBits binary32 1056940032 ∷ ofBits binary32 1056931840 ∷ [])
-    × (packedOf early (quantizedOf early (valuesOf early excludedCodes)) ≡ 252 ∷ 207 ∷ 255 ∷ 252 ∷ 15 ∷ [])
+    × (valuesOf early last ≡ ofBits binary32 1065349120 ∷ ofBits binary32 1056940032 ∷ ofBits binary32 1056931840 ∷ [])
+    × (packedOf early (quantizedOf early (valuesOf early last)) ≡ 252 ∷ 207 ∷ 255 ∷ 252 ∷ 15 ∷ [])
     × (decodePoint ten [] ≡ Refused 13)
     × (decodePoint ten (0 ∷ white) ≡ Refused 13)
     × (decodePoint (record { model = 2; primaries = 4; range = 1; depth = 10; bytes = 4; offset0 = 10; offset1 = 1; offset2 = 20 }) [] ≡ Refused 9)

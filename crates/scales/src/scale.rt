@@ -67,6 +67,7 @@ impl Scale {
         let s = depth.step();
         let m = depth.top();
         let whole = m + 1;
+        let middle = (m + 1) / 2;
         let low = low_end(range, depth);
         let high = high_end(range, depth);
         match range {
@@ -98,7 +99,7 @@ impl Scale {
                     rounding: Rounding::HalfAway,
                 },
                 Kind::Difference => Scale {
-                    base: whole / 2,
+                    base: middle,
                     span: m,
                     top: m,
                     low,
@@ -116,7 +117,7 @@ impl Scale {
                     rounding: Rounding::HalfUp,
                 },
                 Kind::Difference => Scale {
-                    base: whole / 2,
+                    base: middle,
                     span: whole,
                     top: m,
                     low,

@@ -36,10 +36,9 @@ pub fn codes(library: &Library, tally: &mut Tally) -> Flow {
     Flow::Continue(())
 }
 
-/// Each number in turn takes all its 256 values, from every fifth conversion: five
-/// shares no factor with the 72 of a depth.
+/// Each number in turn takes all its 256 values, from every conversion.
 pub fn single(library: &Library, tally: &mut Tally) -> Flow {
-    for (direction, conversion) in DEPTHS.into_iter().flat_map(conversions).step_by(5) {
+    for (direction, conversion) in DEPTHS.into_iter().flat_map(conversions) {
         for place in 0..conversion.len() {
             for number in 0..=u8::MAX {
                 let mut changed = conversion;

@@ -15,7 +15,7 @@ const STEP: usize = 5;
 const LONG_STEP: usize = 15;
 
 /// Lines of random codes for each conversion.
-const RANDOM_LINES: usize = 2;
+const RANDOM_LINES: usize = 4;
 
 pub fn corners(library: &Library, tally: &mut Tally) -> Flow {
     for depth in DEPTHS {

@@ -56,13 +56,13 @@ pub fn there_and_back(library: &Library, tally: &mut Tally) -> Flow {
 
 /// Any line, decoded and encoded, must come back, its unused bits cleared, as it
 /// does when it is unpacked and packed; but the three codes that the older full
-/// range never makes come back as its top. This too asks the library alone.
+/// range never makes come back as its top. This too compares the library with itself:
+/// on any bytes, and on two points with many of the greatest code.
 pub fn decoded_and_back(library: &Library, tally: &mut Tally) -> Flow {
     let mut random = Random::new();
     for layout in layouts::chosen() {
         for points in [1, 2, 100] {
             let line = inputs::line(layout, points, &mut random);
-            // Every second one has many codes at the top.
             let packed = match points {
                 2 => packed_by_reference(layout, &line.codes),
                 _ => line.packed,

@@ -16,7 +16,7 @@ const QUIET: u32 = 1 << 22;
 const NOT_FINITE: u32 = 255 << 23;
 
 /// Random floats of each sort for each setting.
-const RANDOM_FLOATS: usize = 14_000;
+const RANDOM_FLOATS: usize = 20_000;
 
 pub fn ties(library: &Library, tally: &mut Tally) -> Flow {
     for setting in settings() {

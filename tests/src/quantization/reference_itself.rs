@@ -11,7 +11,7 @@ use crate::tally::{Flow, Tally};
 use super::floats::{around_codes, around_ties, at_every_exponent, of_moderate_size};
 use super::{expected_quantize, scale_of, settings, words};
 
-const RANDOM_FLOATS: usize = 14_000;
+const RANDOM_FLOATS: usize = 20_000;
 
 /// The nearest float to a float is itself. Halfway to the next one away from zero
 /// it is the even one of the two, and just beside halfway the nearer one.

@@ -8,7 +8,7 @@ use crate::tally::{Flow, Tally};
 use super::stacks::{self, card_of, card_of_12_bits, counted, older_card_of, refused_cards_of};
 use super::{compare_find, MOST_CARDS};
 
-const RANDOM_STACKS: usize = 2000;
+const RANDOM_STACKS: usize = 3000;
 
 /// Refused cards of the same item and of another, of every kind, before the match,
 /// after it, on both sides and without one.

@@ -33,6 +33,9 @@ top-requires c κs = search needs
 add-whole : tie.Need-add-whole
 add-whole c = omega (arith, stepped (c .before .before))
 
+add-middle : tie.Need-add-middle
+add-middle c = omega (arith, stepped (c .before .before))
+
 low-end-requires : tie.Need-low-end-requires
 low-end-requires c κs = search needs
 
@@ -45,20 +48,20 @@ enum-told c = search needs
 enum-told-2 : tie.Need-enum-told-2
 enum-told-2 c = search needs
 
-mul-t11 : tie.Need-mul-t11
-mul-t11 c = omega (arith, stepped (c .before .before .before .before .before .before .before .before))
-
-mul-t12 : tie.Need-mul-t12
-mul-t12 c = omega (arith, stepped (c .before .before .before .before .before .before .before .before))
-
-enum-told-3 : tie.Need-enum-told-3
-enum-told-3 c = search needs
+mul-t13 : tie.Need-mul-t13
+mul-t13 c = omega (arith, stepped (c .before .before .before .before .before .before .before .before))
 
 mul-t14 : tie.Need-mul-t14
 mul-t14 c = omega (arith, stepped (c .before .before .before .before .before .before .before .before))
 
-mul-t15 : tie.Need-mul-t15
-mul-t15 c = omega (arith, stepped (c .before .before .before .before .before .before .before .before))
+enum-told-3 : tie.Need-enum-told-3
+enum-told-3 c = search needs
+
+mul-t16 : tie.Need-mul-t16
+mul-t16 c = omega (arith, stepped (c .before .before .before .before .before .before .before .before))
+
+mul-t17 : tie.Need-mul-t17
+mul-t17 c = omega (arith, stepped (c .before .before .before .before .before .before .before .before))
 
 enum-told-4 : tie.Need-enum-told-4
 enum-told-4 c = search needs
@@ -103,15 +106,16 @@ of-spec =
     step-requires
     top-requires
     add-whole
+    add-middle
     low-end-requires
     high-end-requires
     enum-told
     enum-told-2
-    mul-t11
-    mul-t12
-    enum-told-3
+    mul-t13
     mul-t14
-    mul-t15
+    enum-told-3
+    mul-t16
+    mul-t17
     enum-told-4
     enum-told-5
     enum-told-6
