@@ -17,11 +17,11 @@ module _ (p : ℕ → Bool) where
 
   pub first-hit : (n i : ℕ) → i < n → p i ≡ true → first p i (n - i) ≡ At i
   unfolding first
-  first-hit n i h e = let z : n - i ≡ suc (n - (i + 1)) = omega arith in ap (first p i) z ∙ rw e
+  first-hit n i h e = let z : n - i ≡ suc (n - (i + 1)) = omega arith in ap (first p i) z ∙ ap (λ (b : Bool). cond b (At i) (first p (i + 1) (n - (i + 1)))) e
 
   pub first-miss : (n i : ℕ) → i < n → p i ≡ false → first p i (n - i) ≡ first p (i + 1) (n - (i + 1))
   unfolding first
-  first-miss n i h e = let z : n - i ≡ suc (n - (i + 1)) = omega arith in ap (first p i) z ∙ rw e
+  first-miss n i h e = let z : n - i ≡ suc (n - (i + 1)) = omega arith in ap (first p i) z ∙ ap (λ (b : Bool). cond b (At i) (first p (i + 1) (n - (i + 1)))) e
 
 -- what an answer says: the first index of the n from i on that passes the test
 pub record FirstIs (p : ℕ → Bool) (i n k : ℕ) : Type 0 where

@@ -2,6 +2,7 @@
 //! for it.
 
 use crate::card::{expected_read, ACCESS, LEAST, WRITTEN};
+use crate::guarded::Guarded;
 use crate::library::card::Told;
 use crate::plain::card::{read, shown, Row, READING};
 
@@ -190,13 +191,7 @@ pub const WRONG: &[Wrong] = &[
     // Bytes 24 to 31.
     reads(
         "the last bytes of a card from 1 not looked at",
-        |card, edition, told| {
-            changed(card, edition, told, |card| {
-                if card[WRITTEN] == 1 {
-                    card[ACCESS..].fill(0);
-                }
-            })
-        },
+        |card, edition, told| not_looked_at(card, edition, told, ACCESS, (1, None)),
     ),
     reads(
         "the access of a card from 1 shown",
@@ -210,63 +205,27 @@ pub const WRONG: &[Wrong] = &[
     ),
     reads(
         "bytes 25 to 31 of a card from 1 not looked at",
-        |card, edition, told| {
-            changed(card, edition, told, |card| {
-                if card[WRITTEN] == 1 {
-                    card[ACCESS + 1..].fill(0);
-                }
-            })
-        },
+        |card, edition, told| not_looked_at(card, edition, told, ACCESS + 1, (1, None)),
     ),
     reads(
         "the last bytes of a card from 1 not looked at at 1",
-        |card, edition, told| {
-            changed(card, edition, told, |card| {
-                if card[WRITTEN] == 1 && edition == 1 {
-                    card[ACCESS..].fill(0);
-                }
-            })
-        },
+        |card, edition, told| not_looked_at(card, edition, told, ACCESS, (1, Some(1))),
     ),
     reads(
         "the last bytes of a card from 1 not looked at at 2",
-        |card, edition, told| {
-            changed(card, edition, told, |card| {
-                if card[WRITTEN] == 1 && edition == 2 {
-                    card[ACCESS..].fill(0);
-                }
-            })
-        },
+        |card, edition, told| not_looked_at(card, edition, told, ACCESS, (1, Some(2))),
     ),
     reads(
         "bytes 25 to 31 of a card from 2 not looked at",
-        |card, edition, told| {
-            changed(card, edition, told, |card| {
-                if card[WRITTEN] == 2 {
-                    card[ACCESS + 1..].fill(0);
-                }
-            })
-        },
+        |card, edition, told| not_looked_at(card, edition, told, ACCESS + 1, (2, None)),
     ),
     reads(
         "bytes 25 to 31 of a card from 3 not looked at",
-        |card, edition, told| {
-            changed(card, edition, told, |card| {
-                if card[WRITTEN] == 3 {
-                    card[ACCESS + 1..].fill(0);
-                }
-            })
-        },
+        |card, edition, told| not_looked_at(card, edition, told, ACCESS + 1, (3, None)),
     ),
     reads(
         "bytes 25 to 31 of a card from 2 not looked at at 3",
-        |card, edition, told| {
-            changed(card, edition, told, |card| {
-                if card[WRITTEN] == 2 && edition == 3 {
-                    card[ACCESS + 1..].fill(0);
-                }
-            })
-        },
+        |card, edition, told| not_looked_at(card, edition, told, ACCESS + 1, (2, Some(3))),
     ),
     reads("byte 31 not looked at", |card, edition, told| {
         changed(card, edition, told, |card| card[31] = 0)
@@ -324,3 +283,19 @@ pub const WRONG: &[Wrong] = &[
         read(card, edition, told, &rows([LENGTH, KNOWN_EDITION]), shown)
     }),
 ];
+
+/// Reads without a look at the bytes from a place on, of cards from one edition, at one
+/// edition or at all.
+fn not_looked_at(
+    card: &mut Guarded<u8>,
+    edition: u8,
+    told: &mut Told,
+    place: usize,
+    (from, at): (u8, Option<u8>),
+) -> i64 {
+    changed(card, edition, told, |card| {
+        if card[WRITTEN] == from && at.is_none_or(|at| edition == at) {
+            card[place..].fill(0);
+        }
+    })
+}

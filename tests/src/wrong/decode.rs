@@ -11,7 +11,7 @@ use crate::plain::lines::decoded;
 use crate::plain::quantization::line;
 use crate::quantization::refused;
 
-use super::points::keeping_from;
+use super::points::{keeping_from, older_as_full};
 use super::{Wrong, REFERENCE};
 
 pub const WRONG: &[Wrong] = &[
@@ -79,13 +79,7 @@ pub const WRONG: &[Wrong] = &[
     }),
     decodes(
         "full range for the older, decoding",
-        |layout, packed, out| {
-            let mut other = layout;
-            if layout[RANGE] == LEGACY {
-                other[RANGE] = 2;
-            }
-            expected_decode_line(other, packed, out)
-        },
+        |layout, packed, out| expected_decode_line(older_as_full(layout), packed, out),
     ),
     decodes(
         "older codes over 4092 decoded as it",
@@ -106,13 +100,7 @@ pub const WRONG: &[Wrong] = &[
     ),
     decodes_points(
         "full range for the older, decoding a point",
-        |layout, bytes, out| {
-            let mut other = layout;
-            if layout[RANGE] == LEGACY {
-                other[RANGE] = 2;
-            }
-            expected_decode_point(other, bytes, out)
-        },
+        |layout, bytes, out| expected_decode_point(older_as_full(layout), bytes, out),
     ),
     decodes("a product with the reciprocal", |layout, packed, out| {
         decoded(layout, packed, out, line, |p, q| p * (1.0 / q))

@@ -11,7 +11,7 @@ use crate::plain::lines::{encoded, place, store_fields};
 use crate::plain::quantization::{clamped, half_up, line, numbered, on_line};
 use crate::quantization::refused;
 
-use super::points::keeping_from;
+use super::points::{keeping_from, older_as_full};
 use super::{Wrong, REFERENCE};
 
 pub const WRONG: &[Wrong] = &[
@@ -65,13 +65,7 @@ pub const WRONG: &[Wrong] = &[
     }),
     encodes(
         "full range for the older, encoding",
-        |layout, values, out| {
-            let mut other = layout;
-            if layout[RANGE] == LEGACY {
-                other[RANGE] = 2;
-            }
-            expected_encode_line(other, values, out)
-        },
+        |layout, values, out| expected_encode_line(older_as_full(layout), values, out),
     ),
     encodes(
         "the older full range clamped to 4095, encoding",

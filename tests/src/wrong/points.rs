@@ -1,7 +1,7 @@
 //! What mistakes in lines share.
 
 use crate::guarded::{Element, Guarded};
-use crate::layouts::bytes_a_point;
+use crate::layouts::{bytes_a_point, LEGACY, RANGE};
 use crate::library::Layout;
 use crate::plain::lines::place;
 
@@ -26,4 +26,12 @@ pub fn big_endian_place(layout: Layout, channel: usize, bit: usize) -> usize {
     let place = place(layout, channel, bit);
     let byte = bytes_a_point(layout) - 1 - place / 8;
     8 * byte + place % 8
+}
+
+/// The layout with full range for the older.
+pub fn older_as_full(mut layout: Layout) -> Layout {
+    if layout[RANGE] == LEGACY {
+        layout[RANGE] = 2;
+    }
+    layout
 }

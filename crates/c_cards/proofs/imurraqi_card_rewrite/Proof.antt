@@ -1,6 +1,7 @@
 -- `imurraqi_card_rewrite` meets its contract, case by case of the answer. Assumes nothing.
-use mathlib.Core.Path.{refl}
+use mathlib.Core.Path.{sym, ap, _∙_}
 use native.Mathlib.Omega.{arith}
+use Rattle.c_types.specs.Numbers.{writtenNumber}
 use Rattle.c_types.proofs.Numbers.{passed}
 use borrow.Author.Needs.{needs}
 use Rattle.c_cards.proofs.imurraqi_card_rewrite.Statement.{statement}
@@ -24,7 +25,7 @@ same-length c = search needs
 returns : tie.Need-returns
 returns c =
     let w = c .before .before .before .before .rewrite in
-    rw (← (w .ensures .0), c .enum-told .given .1) (refl, w .ensures .1)
+    (ap writtenNumber (sym (c .enum-told .given .1) ∙ w .ensures .0), w .ensures .1)
 
 same-length-2 : tie.Need-same-length-2
 same-length-2 c = search needs
@@ -33,7 +34,7 @@ returns-2 : tie.Need-returns-2
 returns-2 c =
     let w = c .before .before .before .before .before .before .rewrite in
     let k = c .before .before .number in
-    rw (← (w .ensures .0), k .given .1) (passed (k .given .0 .0) (omega arith) (c .refused .result) (c .refused .ensures), w .ensures .1)
+    (passed (k .given .0 .0) (omega arith) (c .refused .result) (c .refused .ensures) ∙ ap writtenNumber (sym (k .given .1) ∙ w .ensures .0), w .ensures .1)
 
 pub imurraqi-card-rewrite-spec : {M : Type 1} → statement M
 imurraqi-card-rewrite-spec =

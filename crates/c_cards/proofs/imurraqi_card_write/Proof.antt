@@ -1,10 +1,23 @@
 -- `imurraqi_card_write` meets its contract, case by case of the answer. Assumes nothing.
-use mathlib.Core.Path.{refl}
+use mathlib.Core.Path.{_≡_, sym, ap, _∙_}
+use mathlib.Core.List.{List}
+use Prim.Native.Nat.{ℕ}
 use native.Mathlib.Omega.{arith}
+use Rattle.card_table.specs.declared.facts.Facts.{Facts}
+use Rattle.refusal.specs.declared.Written.{Written}
+use Rattle.card_writer.specs.Writing.{writeAnswer, writeOutput}
+use Rattle.c_types.specs.Numbers.{writtenNumber}
 use Rattle.c_types.proofs.Numbers.{passed}
 use borrow.Author.Needs.{needs}
 use Rattle.c_cards.proofs.imurraqi_card_write.Statement.{statement}
 use Rattle.c_cards.proofs.imurraqi_card_write.Tie as tie
+
+-- the facts that were written are those that were given
+answer-of : {a : Written} {f g : Facts} (e n : ℕ) → a ≡ writeAnswer e f n → f ≡ g → a ≡ writeAnswer e g n
+answer-of e n w h = w ∙ ap (λ (x : Facts). writeAnswer e x n) h
+
+output-of : {b : List ℕ} {f g : Facts} (e : ℕ) (before : List ℕ) → b ≡ writeOutput e f before → f ≡ g → b ≡ writeOutput e g before
+output-of e before w h = w ∙ ap (λ (x : Facts). writeOutput e x before) h
 
 facts-of-requires : tie.Need-facts-of-requires
 facts-of-requires c κs = search needs
@@ -27,7 +40,8 @@ same-length c = search needs
 returns : tie.Need-returns
 returns c =
     let w = c .before .before .before .before .write in
-    rw (← (c .before .before .before .before .before .before .facts-of .ensures), ← (w .ensures .0), c .enum-told .given .1) (refl, w .ensures .1)
+    let f = c .before .before .before .before .before .before .facts-of .ensures in
+    (ap writtenNumber (sym (c .enum-told .given .1) ∙ answer-of _ _ (w .ensures .0) f), output-of _ _ (w .ensures .1) f)
 
 same-length-2 : tie.Need-same-length-2
 same-length-2 c = search needs
@@ -36,7 +50,8 @@ returns-2 : tie.Need-returns-2
 returns-2 c =
     let w = c .before .before .before .before .before .before .write in
     let k = c .before .before .number in
-    rw (← (c .before .before .before .before .before .before .before .before .facts-of .ensures), ← (w .ensures .0), k .given .1) (passed (k .given .0 .0) (omega arith) (c .refused .result) (c .refused .ensures), w .ensures .1)
+    let f = c .before .before .before .before .before .before .before .before .facts-of .ensures in
+    (passed (k .given .0 .0) (omega arith) (c .refused .result) (c .refused .ensures) ∙ ap writtenNumber (sym (k .given .1) ∙ answer-of _ _ (w .ensures .0) f), output-of _ _ (w .ensures .1) f)
 
 pub imurraqi-card-write-spec : {M : Type 1} → statement M
 imurraqi-card-write-spec =

@@ -1,9 +1,10 @@
 -- `imurraqi_stack_find` meets its contract, case by case of the answer. Assumes nothing.
 use Prim.Native.Nat.{_^_, _<_}
-use mathlib.Core.Path.{sym, _∙_}
+use mathlib.Core.Path.{sym, ap, _∙_}
 use native.Mathlib.Omega.{arith}
 use Rattle.stack.proofs.Answers.{located-few}
 use Rattle.c_types.proofs.Numbers.{count-fits, kept, passed}
+use Rattle.c_cards.specs.Numbers.{foundNumber}
 use borrow.Author.Needs.{needs}
 use Rattle.c_cards.proofs.imurraqi_stack_find.Statement.{statement}
 use Rattle.c_cards.proofs.imurraqi_stack_find.Tie as tie
@@ -28,10 +29,12 @@ refused-requires : tie.Need-refused-requires
 refused-requires c κs = search needs
 
 returns : tie.Need-returns
-returns c = rw (← (c .before .before .before .locate .ensures), c .before .index .given .1) (kept (c .before .index .given .0 .0) (few (c .before)))
+returns c = kept (c .before .index .given .0 .0) (few (c .before)) ∙ ap foundNumber (sym (c .before .index .given .1) ∙ c .before .before .before .locate .ensures)
 
 returns-2 : tie.Need-returns-2
-returns-2 c = rw (← (c .before .before .before .before .locate .ensures), c .before .before .number .given .1) (passed (c .before .before .number .given .0 .0) (omega arith) (c .refused .result) (c .refused .ensures))
+returns-2 c =
+    let k = c .before .before .number in
+    passed (k .given .0 .0) (omega arith) (c .refused .result) (c .refused .ensures) ∙ ap foundNumber (sym (k .given .1) ∙ c .before .before .before .before .locate .ensures)
 
 pub imurraqi-stack-find-spec : {M : Type 1} → statement M
 imurraqi-stack-find-spec =
