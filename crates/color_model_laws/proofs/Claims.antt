@@ -13,8 +13,8 @@ use Rattle.color_equations.specs.Equations.{lumaOf, chromaOf, primaryOf, greenF
 use Rattle.color_equations.specs.Line.{conversionAnswer}
 use Rattle.color_equations.proofs.Table.{each-row}
 use Rattle.color_equations.proofs.Whole.{luma-den, chroma-den, primary-den, green-den}
-use Rattle.color_model_laws.specs.Claims.{RowsRight, Inverts, InvertsBack, CountsEmptyLines, MarkedRight, EarlyRight}
-use Rattle.color_model_laws.specs.Marked.{marked, early, given, stated}
+use Rattle.color_model_laws.specs.Claims.{RowsRight, Inverts, InvertsBack, CountsEmptyLines, MarkedRight, EarlyRight, NarrowEndsRight}
+use Rattle.color_model_laws.specs.Marked.{marked, early, narrowEnds, given, stated}
 use Rattle.color_model_laws.proofs.Inverse.{rgb-back, ycbcr-back}
 
 -- three weights above 0, and together they are 1: of each row, by one test of the table
@@ -72,3 +72,7 @@ marked-right = refl
 pub early-right : EarlyRight
 unfolding given stated early
 early-right = refl
+
+pub narrow-ends-right : NarrowEndsRight
+unfolding given stated narrowEnds
+narrow-ends-right = refl

@@ -10,7 +10,7 @@ use Rattle.color_equations.specs.declared.weights.Weights.{Weights}
 use Rattle.color_equations.specs.Weights.{weightsOf, greenOf}
 use Rattle.color_equations.specs.Equations.{lumaOf, chromaOf, primaryOf, greenFrom}
 use Rattle.color_equations.specs.Line.{convertible, conversionAnswer}
-use Rattle.color_model_laws.specs.Marked.{marked, early, given, stated}
+use Rattle.color_model_laws.specs.Marked.{marked, early, narrowEnds, given, stated}
 
 -- three weights above 0, and together they are 1
 abbrev pub Shares : Weights → Type 0
@@ -56,3 +56,7 @@ MarkedRight = map given marked ≡ map stated marked
 -- the points of range 3
 abbrev pub EarlyRight : Type 0
 EarlyRight = map given early ≡ map stated early
+
+-- the narrow ends
+abbrev pub NarrowEndsRight : Type 0
+NarrowEndsRight = map given narrowEnds ≡ map stated narrowEnds

@@ -1,9 +1,9 @@
--- Document 01, "Marked examples", M1 to M12, and points of request A1's range 3, worked out from the equations in exact fractions. Assumes nothing.
+-- Document 01, "Marked examples", M1 to M12, points of request A1's range 3, and request A2's ends, worked out from the equations in exact fractions. Assumes nothing.
 use Prim.Native.Nat.{ℕ, _-_, _^_}
 use mathlib.Core.Bool.{true, false}
 use mathlib.Core.List.{List, [], _∷_}
 use lib.IntN.{pos, negsuc}
-use lib.Ieee.{Float, fin}
+use lib.Ieee.{Float, inf, fin}
 use Rattle.layout.specs.declared.range.Range.{Range}
 use Rattle.layout.specs.declared.range.Range.the-variants.{Narrow, Full, LegacyFull}
 use Rattle.layout.specs.declared.kind.Kind.{Kind}
@@ -80,6 +80,36 @@ early =
     ∷ toRgb Narrow LegacyFull 8 1 (codes 172 100 150) (codes 222 177 123)
     -- white (4096, clamped)
     ∷ toRgb Narrow LegacyFull 12 4 (codes 3760 2048 2048) (codes 4092 4092 4092)
+    ∷ []
+
+-- narrow codes at their ends, by a float and by a conversion
+unfoldable pub narrowEnds : List Example
+narrowEnds =
+    -- the infinities
+    float Narrow 8 Brightness (inf false) 254
+    ∷ float Narrow 8 Difference (inf true) 1
+    ∷ float Narrow 10 Brightness (inf true) 4
+    ∷ float Narrow 10 Difference (inf false) 1019
+    ∷ float Narrow 12 Brightness (inf false) 4079
+    ∷ float Narrow 12 Difference (inf true) 16
+    -- 9/16
+    ∷ float Narrow 8 Difference (fin false 9 (negsuc 3)) 254
+    -- 145/256 (254.875, rounded to 255 and clamped)
+    ∷ float Narrow 8 Difference (fin false 145 (negsuc 7)) 254
+    -- -5/64 (-4, clamped)
+    ∷ float Narrow 10 Brightness (fin true 5 (negsuc 5)) 4
+    -- the codes 0, which are taken as they are (Y' is 0, clamped)
+    ∷ toYcbcr Narrow Narrow 8 1 (codes 0 0 0) (codes 1 128 128)
+    -- Cb is -11, clamped
+    ∷ toYcbcr Narrow Narrow 10 2 (codes 1023 1023 0) (codes 906 4 597)
+    -- Cr is 4142, clamped
+    ∷ toYcbcr Narrow Narrow 12 4 (codes 4095 0 0) (codes 1076 1463 4079)
+    -- R' is 407, clamped
+    ∷ toRgb Full Narrow 8 1 (codes 255 128 255) (codes 254 184 235)
+    -- G' is -98 and B' -713, clamped
+    ∷ toRgb Full Narrow 10 2 (codes 0 0 1023) (codes 677 4 4)
+    -- G' is 4472 and B' 7054, clamped
+    ∷ toRgb LegacyFull Narrow 12 4 (codes 4095 4095 0) (codes 1176 4079 4079)
     ∷ []
 
 -- an example's answer

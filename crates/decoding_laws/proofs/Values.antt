@@ -92,7 +92,7 @@ module _ (l : Layout) (s : List ℕ) where
     code-back k h =
         let r = valid-says l ok in
         let range = rangeOf (l .range) in
-        let f = ends-printed range (l .depth) (r .depth) in
+        let f = ends-printed (l .depth) (r .depth) range in
         ap (codeOf (scaleAt l (k % 3))) (value-at k h)
         ∙ code-returns range (kindOf (l .model) (k % 3)) (l .depth) (codeAt l s k) (r .depth-least) (r .depth-most) (code-le k)
         ∙ ap₂ (λ (low high : ℕ). Code (bounded low high (codeAt l s k))) (f .0) (f .1)
@@ -107,14 +107,14 @@ module _ (l : Layout) (s : List ℕ) where
     pub all-numbers : allNumbers (valuesOf l s) ≡ true
     all-numbers = every-of (λ v. not (isNan v)) nan (valuesOf l s) (λ k h. has-code (scaleAt l (k % 3)) (getD (valuesOf l s) k nan) (clampedTo l (codeAt l s k)) (code-back k h))
 
-    -- every code that is not excluded lies within the ends
+    -- every code that is not left out lies within the ends
     pub all-within : noneExcluded l (codesOf l s) ≡ true → withinEnds l (codesOf l s) ≡ true
     unfolding codesOf
     all-within n = every-of (λ c. leb (lowOf l) c && leb c (highOf l)) 0 (codesOf l s) (λ k h.
         let r = valid-says l ok in
         let c = getD (codesOf l s) k 0 in
         let e : c ≡ codeAt l s k = getD-tabulate (3 * (length s / l .bytes)) (codeAt l s) k 0 (omega (arith, length-tabulate (3 * (length s / l .bytes)) (codeAt l s))) in
-        let w = within-ends (l .range) (l .depth) c (r .range) (r .depth) (omega (arith, code-le k)) (not-true _ (every-at (λ c. not (excluded (l .range) (l .depth) c)) 0 (codesOf l s) k n h)) in
+        let w = within-ends (l .depth) (r .depth) (rangeOf (l .range)) c (omega (arith, code-le k)) (not-true _ (every-at (λ c. not (excluded (rangeOf (l .range)) (l .depth) c)) 0 (codesOf l s) k n h)) in
         ap₂ _&&_ (le-leb (lowOf l) c (w .0)) (le-leb c (highOf l) (w .1)))
 
     pub as-dequantized : (k : ℕ) → k < length (valuesOf l s) → dequantized (l .model) (l .range) (l .depth) (k % 3) (codeAt l s k) ≡ named (kindOf (l .model) (k % 3)) (getD (valuesOf l s) k nan)

@@ -31,9 +31,9 @@ clampedTo l c = bounded (printedLow (rangeOf (l .range)) (l .depth)) (printedHig
 abbrev pub withinEnds : Layout → List ℕ → Bool
 withinEnds l codes = every (λ c. leb (printedLow (rangeOf (l .range)) (l .depth)) c && leb c (printedHigh (rangeOf (l .range)) (l .depth))) codes
 
--- no code is one of the three that A1 excludes from the return
+-- no code is one of those that A1 and A2 leave out of the return
 abbrev pub noneExcluded : Layout → List ℕ → Bool
-noneExcluded l codes = every (λ c. not (excluded (l .range) (l .depth) c)) codes
+noneExcluded l codes = every (λ c. not (excluded (rangeOf (l .range)) (l .depth) c)) codes
 
 -- any captured line, of up to 4,096 points, is decoded into three floats a point
 abbrev pub DecodesLines : Type 0
@@ -77,7 +77,7 @@ abbrev pub ReturnsWithinEnds : Type 0
 ReturnsWithinEnds =
     (l : Layout) (n : ℕ) (s : List ℕ) → PackedLine l n s → withinEnds l (codesOf l s) ≡ true → packedOf l (quantizedOf l (valuesOf l s)) ≡ cleared l s
 
--- and none does but the three that are excluded
+-- and none does but those that are left out
 abbrev pub EveryCodeWithinEnds : Type 0
 EveryCodeWithinEnds = (l : Layout) (n : ℕ) (s : List ℕ) → PackedLine l n s → noneExcluded l (codesOf l s) ≡ true → withinEnds l (codesOf l s) ≡ true
 
@@ -91,7 +91,7 @@ AnyLineComesBack =
     × (encodeAnswer l decoded (length bytes) ≡ Points n)
     × (encodeOutput l decoded bytes ≡ packedOf l (map (clampedTo l) (codesOf l s)))
 
--- demand 2's last sentence, but for the three codes that A1 excludes from it: such a line returns, its unused bits cleared
+-- demand 2's last sentence, but for the codes that A1 and A2 leave out of it: such a line returns, its unused bits cleared
 abbrev pub AnyLineReturns : Type 0
 AnyLineReturns =
     (l : Layout) (n : ℕ) (s : List ℕ) → PackedLine l n s → n ≤ mostPoints → noneExcluded l (codesOf l s) ≡ true

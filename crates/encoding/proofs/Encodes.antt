@@ -14,7 +14,9 @@ use Rattle.lists.proofs.Every.{every-at, every-of}
 use Rattle.lists.proofs.Lists.{length-tabulate, getD-tabulate}
 use Rattle.fractions.specs.Fraction.{clamp}
 use Rattle.layout.specs.declared.Layout.{Layout}
-use Rattle.layout.specs.Layout.{topOf, rangeOf, kindOf}
+use Rattle.layout.specs.Layout.{topOf, rangeOf, kindOf, validLayout}
+use Rattle.layout.proofs.Depths.{steps}
+use Rattle.layout.proofs.Facts.{valid-says}
 use Rattle.scales.specs.declared.scale.Scale.{Scale}
 use Rattle.quantization.specs.Code.{codeOf, codeOr, codeOfValue, unclamped, exact}
 use Rattle.scales.specs.Channel.{scaleAt}
@@ -50,12 +52,13 @@ code-le sc (inf false) = omega arith
 code-le sc (inf true) = omega arith
 code-le sc (fin s m e) = clamp-le (sc .low) (sc .high) (unclamped sc (exact s m e))
 
-pub code-small : (l : Layout) (j : ℕ) (v : Float) → codeOr 0 (codeOf (scaleAt l j) v) < 2 ^ l .depth
-code-small l j v =
+pub code-small : (l : Layout) (j : ℕ) (v : Float) → validLayout l ≡ true → codeOr 0 (codeOf (scaleAt l j) v) < 2 ^ l .depth
+code-small l j v ok =
     let n = l .depth in
     let r = rangeOf (l .range) in
     let e = ends r (kindOf (l .model) j) n in
-    omega (arith, ends-le r n, code-le (scaleAt l j) v, pow-pos n)
+    let d = valid-says l ok in
+    omega (arith, ends-le r n (steps n (d .depth-least) (d .depth-most)), code-le (scaleAt l j) v, pow-pos n)
 
 module _ (l : Layout) (vs : List Float) where
   pub length-quantized : length (quantizedOf l vs) ≡ length vs
@@ -70,19 +73,19 @@ module _ (l : Layout) (vs : List Float) where
       getD-tabulate (length vs) (valueCode l vs) (3 * i + j) 0 k ∙ ap (λ (c : ℕ). codeOr 0 (codeOf (scaleAt l c) (getD vs (3 * i + j) nan))) e
 
   -- every code is one of the depth
-  pub quantized-within : codesWithin (l .depth) (quantizedOf l vs) ≡ true
+  pub quantized-within : validLayout l ≡ true → codesWithin (l .depth) (quantizedOf l vs) ≡ true
   unfolding quantizedOf valueCode
-  quantized-within = every-of (λ c. leb c (topOf (l .depth))) 0 (quantizedOf l vs) (λ k h.
+  quantized-within ok = every-of (λ c. leb c (topOf (l .depth))) 0 (quantizedOf l vs) (λ k h.
       let e = getD-tabulate (length vs) (valueCode l vs) k 0 (omega (arith, length-quantized)) in
-      le-leb (getD (quantizedOf l vs) k 0) (topOf (l .depth)) (omega (arith, e, code-small l (k % 3) (getD vs k nan))))
+      le-leb (getD (quantizedOf l vs) k 0) (topOf (l .depth)) (omega (arith, e, code-small l (k % 3) (getD vs k nan) ok)))
 
   -- a code worked out on channel j's scale fits, and it is the line's
-  pub placed : (i j : ℕ) (sc : Scale) (c : ℕ) → sc ≡ scaleAt l j → j < 3 → 3 * i + j < length vs
+  pub placed : validLayout l ≡ true → (i j : ℕ) (sc : Scale) (c : ℕ) → sc ≡ scaleAt l j → j < 3 → 3 * i + j < length vs
       → c ≡ codeOr 0 (codeOf sc (getD vs (3 * i + j) nan)) → (c < 2 ^ l .depth) × (c ≡ getD (quantizedOf l vs) (3 * i + j) 0)
-  placed i j sc c f h k e =
+  placed ok i j sc c f h k e =
       let v = getD vs (3 * i + j) nan in
       let d = e ∙ ap (λ (x : Scale). codeOr 0 (codeOf x v)) f in
-      (omega (arith, d, code-small l j v), d ∙ sym (quantized-at i j h k))
+      (omega (arith, d, code-small l j v ok), d ∙ sym (quantized-at i j h k))
 
 -- a point's number, by its codes
 pub joined-by : (l : Layout) (cs : List ℕ) (i : ℕ) {a b c : ℕ} → a ≡ getD cs (3 * i) 0 → b ≡ getD cs (3 * i + 1) 0 → c ≡ getD cs (3 * i + 2) 0

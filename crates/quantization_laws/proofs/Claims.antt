@@ -34,21 +34,19 @@ use Rattle.quantization_laws.proofs.Return.{code-returns}
 use Rattle.quantization_laws.proofs.Nearest.{code-nearest, zero-plus}
 use Rattle.quantization_laws.proofs.Distances.{nearest-same}
 
--- what a known channel says of its range and depth: the laws are proved for depths from 8 to 12
-pub record Says (range n : ℕ) : Type 0 where
-  pub range-known : rangeKnown range ≡ true
+-- what a known channel says of its depth: the laws are proved for depths from 8 to 12
+pub record Says (n : ℕ) : Type 0 where
   pub depth-known : depthKnown n ≡ true
   pub least : 8 ≤ n
   pub most : n ≤ 12
   pub stepped : Steps n
 
-says : (model range n channel : ℕ) → channelKnownAt model range n channel ≡ true → Says range n
+says : (model range n channel : ℕ) → channelKnownAt model range n channel ≡ true → Says n
 says model range n channel e =
     let h = and-left (modelKnown model && rangeKnown range && depthKnown n) (channelKnown channel) e in
     let d = and-right (modelKnown model && rangeKnown range) (depthKnown n) h in
     let b = known-between n d in
     record {
-      range-known = and-right (modelKnown model) (rangeKnown range) (and-left (modelKnown model && rangeKnown range) (depthKnown n) h);
       depth-known = d;
       least = b .0;
       most = b .1;
@@ -60,7 +58,7 @@ code-printed : (r : Range) (k : Kind) (n : ℕ) (v : Fraction) → depthKnown n 
 unfolding codeOfValue
 code-printed r k n v d s =
     let e = ends r k n in
-    let f = ends-printed r n d in
+    let f = ends-printed n d r in
     (λ i. clamp ((e .0 ∙ f .0) i) ((e .1 ∙ f .1) i) (unclamped-printed r k n v s i))
 
 pub dequantizes : Dequantizes
@@ -87,7 +85,7 @@ pub quantizes-others : QuantizesOthers
 unfolding quantized codeOf
 quantizes-others model range n channel e =
     let q = ends (rangeOf range) (kindOf model channel) n in
-    let f = ends-printed (rangeOf range) n (says model range n channel e .depth-known) in
+    let f = ends-printed n (says model range n channel e .depth-known) (rangeOf range) in
     (pass _ (ap not e) (ap Code (q .1 ∙ f .1)), pass _ (ap not e) (ap Code (q .0 ∙ f .0)), pass _ (ap not e) refl)
 
 pub zero-is-plus : ZeroIsPlus
@@ -115,7 +113,7 @@ told Difference v w e = cc
 
 -- a code that has a value is one of its depth, and comes back clamped
 pub record Back (range n c : ℕ) (answer : Quantized) : Type 0 where
-  pub known : Says range n
+  pub known : Says n
   pub small : c ≤ topOf n
   pub clamped : answer ≡ Code (bounded (printedLow (rangeOf range) n) (printedHigh (rangeOf range) n) c)
 
@@ -131,7 +129,7 @@ comes-back model range n channel c v e = go (channelKnownAt model range n channe
     go true false p q e =
         let d = says model range n channel p in
         let h = ltb-false (topOf n) c q in
-        let f = ends-printed (rangeOf range) n (d .depth-known) in
+        let f = ends-printed n (d .depth-known) (rangeOf range) in
         record {
           known = d;
           small = h;
@@ -149,10 +147,10 @@ returns-within model range n channel c v e lo hi = returns model range n channel
 pub returns-every : ReturnsEvery
 returns-every model range n channel c v e x =
     let b = comes-back model range n channel c v e in
-    let w = within-ends range n c (b .known .range-known) (b .known .depth-known) (b .small) x in
+    let w = within-ends n (b .known .depth-known) (rangeOf range) c (b .small) x in
     returns-within model range n channel c v e (w .0) (w .1)
 
 pub returns-excluded : ReturnsExcluded
 returns-excluded model range n channel c v e x =
     let b = comes-back model range n channel c v e in
-    b .clamped ∙ ap Code (excluded-end range n c (b .known .range-known) (b .known .depth-known) x)
+    b .clamped ∙ ap Code (excluded-end n (b .known .depth-known) (rangeOf range) c x)

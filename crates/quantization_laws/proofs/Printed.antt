@@ -1,7 +1,8 @@
 -- Each line as printed is the one definition, at that range and kind. Assumes nothing.
 use mathlib.Core.Path.{_≡_, refl, sym, ap, ap₂, _∙_, subst}
-use mathlib.Core.Bool.{true, false, true≢false}
-use borrow.Author.Tests.{leb-true, leb-false}
+use mathlib.Core.Bool.{Bool, true, false, cond, not, _&&_, true≢false}
+use borrow.Author.Tests.{leb-true, leb-false, ltb-true, ltb-false, le-leb, not-false}
+use lib.Dec.{eqb, leb, ltb, lit≤}
 use Prim.Native.Nat.{ℕ, _+_, _-_, _*_, _^_, _≤_, _<_}
 use native.Mathlib.Nat.{mul-comm, mul-assoc, zero-mul}
 use native.Mathlib.Omega.{arith}
@@ -9,19 +10,19 @@ use lib.IntN.{ℤ, pos, _+ℤ_, _*ℤ_, +ℤ-idr}
 use Rattle.fractions.specs.Fraction.{Fraction, _over_, Same, _·_, _⊕_, _⊞_, plusHalf, quotient, floor, halfUp, halfAway, bounded}
 use Rattle.fractions.proofs.Integers.{as-difference, same, times, times-right, times-times, times-plus, plus-pos}
 use Rattle.fractions.proofs.Floor.{floor-double}
+use Rattle.lists.proofs.Tests.{and-left, and-right}
 use Rattle.layout.specs.declared.range.Range.{Range}
 use Rattle.layout.specs.declared.range.Range.the-variants.{Narrow, Full, LegacyFull}
 use Rattle.layout.specs.declared.kind.Kind.{Kind}
 use Rattle.layout.specs.declared.kind.Kind.the-variants.{Brightness, Difference}
 use Rattle.layout.specs.declared.depth.Depth.{Depth}
 use Rattle.layout.specs.declared.depth.Depth.the-variants.{Eight, Ten, Twelve}
-use Rattle.layout.specs.Layout.{rangeNumber, rangeKnown, rangeOf, depthKnown, depthOf, bitsOf, stepOf, topOf}
+use Rattle.layout.specs.Layout.{depthKnown, depthOf, bitsOf, stepOf, topOf}
 use Rattle.layout.proofs.Depths.{Steps, known-bits}
-use Rattle.layout.proofs.Known.{range-number}
 use Rattle.scales.specs.Scale.{lowEnd, highEnd, scaleOf}
 use Rattle.scales.specs.Value.{fractionOf}
 use Rattle.quantization.specs.Code.{unclamped}
-use Rattle.quantization_laws.specs.Printed.{half, printedValue, printedUnclamped, printedLow, printedHigh, excluded}
+use Rattle.quantization_laws.specs.Printed.{half, printedValue, printedUnclamped, printedLow, printedHigh, nearerEnd, excluded}
 
 -- s (a v + b) = (a s) v + b s
 spread : (s a b : ℕ) (v : Fraction) → s · (a · v ⊕ b) ≡ (a * s) · v ⊕ (b * s)
@@ -86,42 +87,61 @@ unclamped-printed Full Difference n v s = refl
 unclamped-printed LegacyFull Brightness n v s = ap halfUp (no-base (2 ^ n · v))
 unclamped-printed LegacyFull Difference n v s = half-shifted (2 ^ n) (2 ^ (n - 1)) (twice n s) (v .den) (v .num)
 
-pub ends-printed : (r : Range) (n : ℕ) → depthKnown n ≡ true → (lowEnd r n ≡ printedLow r n) × (highEnd r n ≡ printedHigh r n)
-ends-printed Narrow n d = (refl, refl)
-ends-printed Full n d = (refl, refl)
-ends-printed LegacyFull n d = (refl, subst (λ (k : ℕ). highEnd LegacyFull k ≡ printedHigh LegacyFull k) (known-bits n d) (by-depth (depthOf n)))
-  where
-    by-depth : (d : Depth) → highEnd LegacyFull (bitsOf d) ≡ printedHigh LegacyFull (bitsOf d)
-    by-depth Eight = refl
-    by-depth Ten = refl
-    by-depth Twelve = refl
+-- the ends, and with them which codes lie outside, depth by depth
+module _ (n : ℕ) (d : depthKnown n ≡ true) where
+  by-depth : (P : ℕ → Type 0) → P 8 → P 10 → P 12 → P n
+  by-depth P eight ten twelve = subst P (known-bits n d) (go (depthOf n))
+    where
+      go : (d : Depth) → P (bitsOf d)
+      go Eight = eight
+      go Ten = ten
+      go Twelve = twelve
 
--- ---- which codes lie within the ends: all but the three that are excluded, and these are above 4092
+  pub ends-printed : (r : Range) → (lowEnd r n ≡ printedLow r n) × (highEnd r n ≡ printedHigh r n)
+  ends-printed Narrow = by-depth (λ n. (lowEnd Narrow n ≡ printedLow Narrow n) × (highEnd Narrow n ≡ printedHigh Narrow n)) (refl, refl) (refl, refl) (refl, refl)
+  ends-printed Full = (refl, refl)
+  ends-printed LegacyFull = (refl, by-depth (λ n. highEnd LegacyFull n ≡ printedHigh LegacyFull n) refl refl refl)
 
-pub within-ends : (range n c : ℕ) → rangeKnown range ≡ true → depthKnown n ≡ true → c ≤ topOf n → excluded range n c ≡ false
-    → let r = rangeOf range in (printedLow r n ≤ c) × (c ≤ printedHigh r n)
-within-ends range n c k d h e =
-    subst (λ (m : ℕ). c ≤ topOf m → excluded range m c ≡ false → (printedLow (rangeOf range) m ≤ c) × (c ≤ printedHigh (rangeOf range) m)) (known-bits n d)
-    (subst (λ (x : ℕ). c ≤ topOf (bitsOf (depthOf n)) → excluded x (bitsOf (depthOf n)) c ≡ false → (printedLow (rangeOf range) (bitsOf (depthOf n)) ≤ c) × (c ≤ printedHigh (rangeOf range) (bitsOf (depthOf n)))) (range-number range k)
-    (go (rangeOf range) (depthOf n))) h e
-  where
-    go : (r : Range) (d : Depth) → c ≤ topOf (bitsOf d) → excluded (rangeNumber r) (bitsOf d) c ≡ false → (printedLow r (bitsOf d) ≤ c) × (c ≤ printedHigh r (bitsOf d))
-    go Narrow d h e = (omega arith, h)
-    go Full d h e = (omega arith, h)
-    go LegacyFull Eight h e = (omega arith, h)
-    go LegacyFull Ten h e = (omega arith, h)
-    go LegacyFull Twelve h e = (omega arith, omega (arith, leb-false 4093 c e))
+  -- every code that is not left out lies within the ends
+  pub within-ends : (r : Range) (c : ℕ) → c ≤ topOf n → excluded r n c ≡ false → (printedLow r n ≤ c) × (c ≤ printedHigh r n)
+  within-ends Narrow c h e =
+      let s = stepOf n in
+      let w = not-false (leb s c && leb c (255 * s - 1)) e in
+      omega (arith, ends-printed Narrow, leb-true s c (and-left (leb s c) (leb c (255 * s - 1)) w), leb-true c (255 * s - 1) (and-right (leb s c) (leb c (255 * s - 1)) w))
+  within-ends Full c h e = (omega arith, h)
+  within-ends LegacyFull c h e = (omega arith, omega (arith, ends-printed LegacyFull, go (eqb n 12) e))
+    where
+      go : (t : Bool) → t && leb 4093 c ≡ false → c ≤ cond t 4092 (topOf n)
+      go true e = omega (arith, leb-false 4093 c e)
+      go false e = h
 
-pub excluded-end : (range n c : ℕ) → rangeKnown range ≡ true → depthKnown n ≡ true → excluded range n c ≡ true
-    → let r = rangeOf range in bounded (printedLow r n) (printedHigh r n) c ≡ 4092
-excluded-end range n c k d e =
-    subst (λ (m : ℕ). excluded range m c ≡ true → bounded (printedLow (rangeOf range) m) (printedHigh (rangeOf range) m) c ≡ 4092) (known-bits n d)
-    (subst (λ (x : ℕ). excluded x (bitsOf (depthOf n)) c ≡ true → bounded (printedLow (rangeOf range) (bitsOf (depthOf n))) (printedHigh (rangeOf range) (bitsOf (depthOf n))) c ≡ 4092) (range-number range k)
-    (go (rangeOf range) (depthOf n))) e
-  where
-    go : (r : Range) (d : Depth) → excluded (rangeNumber r) (bitsOf d) c ≡ true → bounded (printedLow r (bitsOf d)) (printedHigh r (bitsOf d)) c ≡ 4092
-    go Narrow d e = absurd (true≢false (sym e))
-    go Full d e = absurd (true≢false (sym e))
-    go LegacyFull Eight e = absurd (true≢false (sym e))
-    go LegacyFull Ten e = absurd (true≢false (sym e))
-    go LegacyFull Twelve e = omega (arith, leb-true 4093 c e)
+  -- and one that is left out, and not below them, lies above
+  above-ends : (r : Range) (c : ℕ) → excluded r n c ≡ true → printedLow r n ≤ c → printedHigh r n < c
+  above-ends Narrow c e low =
+      let s = stepOf n in
+      let f = ends-printed Narrow in
+      omega (arith, f, leb-false c (255 * s - 1) (passes (leb s c) (leb c (255 * s - 1)) (le-leb s c (omega arith)) e))
+    where
+      passes : (a b : Bool) → a ≡ true → not (a && b) ≡ true → b ≡ false
+      passes true true p e = sym e
+      passes true false p e = refl
+      passes false b p e = absurd (true≢false (sym p))
+  above-ends Full c e low = absurd (true≢false (sym e))
+  above-ends LegacyFull c e low = omega (arith, ends-printed LegacyFull, go (eqb n 12) e)
+    where
+      go : (t : Bool) → t && leb 4093 c ≡ true → cond t 4092 (topOf n) < c
+      go true e = omega (arith, leb-true 4093 c e)
+      go false e = absurd (true≢false (sym e))
+
+  ordered : (r : Range) → printedLow r n ≤ printedHigh r n
+  ordered Narrow = by-depth (λ n. printedLow Narrow n ≤ printedHigh Narrow n) (lit≤ tt) (lit≤ tt) (lit≤ tt)
+  ordered Full = omega arith
+  ordered LegacyFull = omega arith
+
+  -- so that clamped it is the nearer end
+  pub excluded-end : (r : Range) (c : ℕ) → excluded r n c ≡ true → bounded (printedLow r n) (printedHigh r n) c ≡ nearerEnd r n c
+  excluded-end r c e = go (ltb c (printedLow r n)) refl
+    where
+      go : (t : Bool) → ltb c (printedLow r n) ≡ t → bounded (printedLow r n) (printedHigh r n) c ≡ cond t (printedLow r n) (printedHigh r n)
+      go true q = omega (arith, ltb-true c (printedLow r n) q, ordered r)
+      go false q = omega (arith, above-ends r c e (ltb-false c (printedLow r n) q), ordered r)

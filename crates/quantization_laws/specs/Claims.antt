@@ -1,4 +1,4 @@
--- What is claimed of one value: demand 2, in the terms of document 01 and request A1, of the definitions that the entries' contracts cite. proofs/Claims.antt proves each. Assumes nothing.
+-- What is claimed of one value: demand 2, in the terms of document 01 and requests A1 and A2, of the definitions that the entries' contracts cite. proofs/Claims.antt proves each. Assumes nothing.
 use Prim.Native.Nat.{ℕ, _≤_, _<_}
 use mathlib.Core.Bool.{true, false}
 use mathlib.Core.Path.{_≡_}
@@ -10,7 +10,7 @@ use Rattle.refusal.specs.Refusal.{notANumber}
 use Rattle.quantization.specs.declared.Quantized.the-variants.{Code, Refused}
 use Rattle.scales.specs.Channel.{channelKnownAt}
 use Rattle.quantization.specs.Answer.{named, dequantized, quantized}
-use Rattle.quantization_laws.specs.Printed.{printedValue, printedUnclamped, printedLow, printedHigh, excluded}
+use Rattle.quantization_laws.specs.Printed.{printedValue, printedUnclamped, printedLow, printedHigh, nearerEnd, excluded}
 use Rattle.quantization_laws.specs.Nearest.{NearestTo}
 use Rattle.quantization_laws.specs.Pattern.{fieldOf, patternValue}
 
@@ -54,14 +54,14 @@ ReturnsWithin =
     (model range n channel c : ℕ) (v : Float) → dequantized model range n channel c ≡ named (kindOf model channel) v
     → printedLow (rangeOf range) n ≤ c → c ≤ printedHigh (rangeOf range) n → quantized model range n channel v ≡ Code c
 
--- and so every code comes back but the three that A1 excludes,
+-- and so every code comes back but those that A1 and A2 leave out,
 abbrev pub ReturnsEvery : Type 0
 ReturnsEvery =
     (model range n channel c : ℕ) (v : Float) → dequantized model range n channel c ≡ named (kindOf model channel) v
-    → excluded range n c ≡ false → quantized model range n channel v ≡ Code c
+    → excluded (rangeOf range) n c ≡ false → quantized model range n channel v ≡ Code c
 
--- which come back as 4092
+-- which come back as the nearer end
 abbrev pub ReturnsExcluded : Type 0
 ReturnsExcluded =
     (model range n channel c : ℕ) (v : Float) → dequantized model range n channel c ≡ named (kindOf model channel) v
-    → excluded range n c ≡ true → quantized model range n channel v ≡ Code 4092
+    → excluded (rangeOf range) n c ≡ true → quantized model range n channel v ≡ Code (nearerEnd (rangeOf range) n c)

@@ -1,7 +1,7 @@
--- The eight lines of document 01, "Codes and floats", the four that request A1 adds, and the ends of the clamp, as they are printed: n is the depth, s = 2^(n-8), m = 2^n - 1, c a code, v a value. Assumes nothing.
+-- The eight lines of document 01, "Codes and floats", the four that request A1 adds, and the ends of the clamp, with A2's, as they are printed: n is the depth, s = 2^(n-8), m = 2^n - 1, c a code, v a value. Assumes nothing.
 use Prim.Native.Nat.{ℕ, _-_, _*_, _^_}
-use mathlib.Core.Bool.{Bool, cond, _&&_}
-use lib.Dec.{eqb, leb}
+use mathlib.Core.Bool.{Bool, false, cond, not, _&&_}
+use lib.Dec.{eqb, leb, ltb}
 use lib.IntN.{ℤ, pos, _-ℤ_}
 use Rattle.fractions.specs.Fraction.{Fraction, _over_, _·_, _⊕_, _⊞_, _⊟_, plusHalf, floor, halfAway}
 use Rattle.layout.specs.declared.range.Range.{Range}
@@ -44,17 +44,26 @@ printedUnclamped Full Difference n v = let m = topOf n in halfAway (m · v ⊕ 2
 printedUnclamped LegacyFull Brightness n v = floor (plusHalf (2 ^ n · v))
 printedUnclamped LegacyFull Difference n v = floor (plusHalf (2 ^ n · (v ⊞ half)))
 
--- the ends of the clamp: 0 .. 2^n - 1; in A1's range 255, 1023 and, at 12 bits, 4092
+-- the ends of the clamp: narrow 1 to 254, 4 to 1019, 16 to 4079 (A2); full 0 .. 2^n - 1; in A1's range 0 to 255, 1023 and, at 12 bits, 4092
+abbrev pub atDepth : (n eight ten twelve : ℕ) → ℕ
+atDepth n eight ten twelve = cond (eqb n 8) eight (cond (eqb n 10) ten twelve)
+
 abbrev pub printedLow : Range → ℕ → ℕ
-printedLow Narrow n = 0
+printedLow Narrow n = atDepth n 1 4 16
 printedLow Full n = 0
 printedLow LegacyFull n = 0
 
 abbrev pub printedHigh : Range → ℕ → ℕ
-printedHigh Narrow n = 2 ^ n - 1
+printedHigh Narrow n = atDepth n 254 1019 4079
 printedHigh Full n = 2 ^ n - 1
-printedHigh LegacyFull n = cond (eqb n 8) 255 (cond (eqb n 10) 1023 4092)
+printedHigh LegacyFull n = atDepth n 255 1023 4092
 
--- the three codes that A1 excludes from demand 2's return: 4093 to 4095 of 12 bits in range 3
-abbrev pub excluded : ℕ → ℕ → ℕ → Bool
-excluded range n c = eqb range 3 && eqb n 12 && leb 4093 c
+-- the end that a code outside them is nearer to
+abbrev pub nearerEnd : Range → ℕ → ℕ → ℕ
+nearerEnd r n c = cond (ltb c (printedLow r n)) (printedLow r n) (printedHigh r n)
+
+-- the codes that demand 2's return leaves out: narrow ones outside s .. 255s - 1 (A2), and 4093 to 4095 of 12 bits in range 3 (A1)
+abbrev pub excluded : Range → ℕ → ℕ → Bool
+excluded Narrow n c = let s = stepOf n in not (leb s c && leb c (255 * s - 1))
+excluded Full n c = false
+excluded LegacyFull n c = eqb n 12 && leb 4093 c

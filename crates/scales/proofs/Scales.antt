@@ -70,10 +70,10 @@ legacy-le n = go (eqb n 12) refl
     go false e = omega arith
 
 -- no end is above the highest code
-pub ends-le : (r : Range) (n : ℕ) → (lowEnd r n ≤ topOf n) × (highEnd r n ≤ topOf n)
-ends-le Narrow n = (omega arith, omega arith)
-ends-le Full n = (omega arith, omega arith)
-ends-le LegacyFull n = (omega arith, legacy-le n)
+pub ends-le : (r : Range) (n : ℕ) → Steps n → (lowEnd r n ≤ topOf n) × (highEnd r n ≤ topOf n)
+ends-le Narrow n h = (omega (arith, h), omega (arith, h))
+ends-le Full n h = (omega arith, omega arith)
+ends-le LegacyFull n h = (omega arith, legacy-le n)
 
 -- every scale of the paper is one that f64 has room for
 pub fine : (r : Range) (k : Kind) (n : ℕ) → Steps n → Fine (scaleOf r n k)

@@ -1,4 +1,4 @@
--- Document 01, "Codes and floats", with request A1's range 3: one record for each range, depth and kind. Assumes nothing.
+-- Document 01, "Codes and floats", with request A1's range 3 and A2's narrow ends: one record for each range, depth and kind. Assumes nothing.
 use Prim.Native.Nat.{ℕ, _-_, _*_, _^_}
 use mathlib.Core.Bool.{cond}
 use lib.Dec.{eqb}
@@ -10,14 +10,14 @@ use Rattle.layout.specs.Layout.{stepOf, topOf}
 use Rattle.scales.specs.declared.scale.Scale.{Scale}
 use Rattle.scales.specs.declared.scale.Rounding.the-variants.{HalfUp, HalfAway}
 
--- the ends that a code is clamped to: 0 .. 2^n - 1, but in the older full range 4092 at 12 bits (A1: 255, 1023 and 4092)
+-- the ends that a code is clamped to: narrow s .. 255s - 1 (A2), full 0 .. 2^n - 1, and in the older full range 4092 at 12 bits (A1: 255, 1023 and 4092)
 abbrev pub lowEnd : Range → ℕ → ℕ
-lowEnd Narrow n = 0
+lowEnd Narrow n = stepOf n
 lowEnd Full n = 0
 lowEnd LegacyFull n = 0
 
 abbrev pub highEnd : Range → ℕ → ℕ
-highEnd Narrow n = topOf n
+highEnd Narrow n = 255 * stepOf n - 1
 highEnd Full n = topOf n
 highEnd LegacyFull n = cond (eqb n 12) 4092 (topOf n)
 

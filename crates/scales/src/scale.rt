@@ -34,12 +34,14 @@ pub enum ChannelScale {
     Unknown,
 }
 
-// The ends that a code is clamped to: 0 .. 2^n - 1, but in the older full range 4092 at 12 bits.
+// The ends that a code is clamped to. Narrow codes keep away from the lowest and the highest, which a broadcast desk takes for
+// timing: s .. 255s - 1. Full ones have 0 .. 2^n - 1, and the older full range 4092 at 12 bits.
 fn low_end(range: Range, depth: Depth) -> u16
     ensures { λ r. ⌜ r ≡ lowEnd range (bitsOf depth) ⌝ }
 {
+    let s = depth.step();
     match range {
-        Range::Narrow => 0,
+        Range::Narrow => s,
         Range::Full => 0,
         Range::LegacyFull => 0,
     }
@@ -48,9 +50,11 @@ fn low_end(range: Range, depth: Depth) -> u16
 fn high_end(range: Range, depth: Depth) -> u16
     ensures { λ r. ⌜ r ≡ highEnd range (bitsOf depth) ⌝ }
 {
+    let s = depth.step();
+    let m = depth.top();
     match range {
-        Range::Narrow => depth.top(),
-        Range::Full => depth.top(),
+        Range::Narrow => 255 * s - 1,
+        Range::Full => m,
         Range::LegacyFull => match depth {
             Depth::Eight => 255,
             Depth::Ten => 1023,

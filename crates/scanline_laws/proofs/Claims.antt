@@ -41,7 +41,7 @@ pub accepts-what-was-packed : AcceptsWhatWasPacked
 accepts-what-was-packed l n cs p h = unpacking-accepted l n (packedOf l cs) (length cs) (packs-to-bytes l n cs p) (p .points) h
 
 pub encodes-to-codes : EncodesToCodes
-encodes-to-codes l n vs e h = record { valid = e; codes = quantized-within l vs; points = length-quantized l vs ∙ h }
+encodes-to-codes l n vs e h = record { valid = e; codes = quantized-within l vs e; points = length-quantized l vs ∙ h }
 
 -- no elements are a line of no points
 empty-bytes : (l : Layout) → validLayout l ≡ true → PackedLine l 0 []

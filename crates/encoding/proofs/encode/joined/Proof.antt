@@ -19,13 +19,13 @@ module _ (c : tie.After-code-of-number3) where
   s = c .before .before .before .before .before .before .before
 
   code0 : (c .before .before .before .before .code-of-number .result < 2 ^ s .args .layout .depth) × (c .before .before .before .before .code-of-number .result ≡ getD (quantizedOf (s .args .layout) (s .args .values .now)) (3 * s .args .i) 0)
-  code0 = rw add-zero at (placed (s .args .layout) (s .args .values .now) (s .args .i) 0 _ _ (s .pre .1 .fitted0) (lit< tt) (omega arith) (rw (sym (add-zero (3 * s .args .i))) at (c .before .before .before .before .code-of-number .ensures)))
+  code0 = rw add-zero at (placed (s .args .layout) (s .args .values .now) (s .pre .0) (s .args .i) 0 _ _ (s .pre .1 .fitted0) (lit< tt) (omega arith) (rw (sym (add-zero (3 * s .args .i))) at (c .before .before .before .before .code-of-number .ensures)))
 
   code1 : (c .before .before .code-of-number2 .result < 2 ^ s .args .layout .depth) × (c .before .before .code-of-number2 .result ≡ getD (quantizedOf (s .args .layout) (s .args .values .now)) (3 * s .args .i + 1) 0)
-  code1 = placed (s .args .layout) (s .args .values .now) (s .args .i) 1 _ _ (s .pre .1 .fitted1) (lit< tt) (omega arith) (c .before .before .code-of-number2 .ensures)
+  code1 = placed (s .args .layout) (s .args .values .now) (s .pre .0) (s .args .i) 1 _ _ (s .pre .1 .fitted1) (lit< tt) (omega arith) (c .before .before .code-of-number2 .ensures)
 
   code2 : (c .code-of-number3 .result < 2 ^ s .args .layout .depth) × (c .code-of-number3 .result ≡ getD (quantizedOf (s .args .layout) (s .args .values .now)) (3 * s .args .i + 2) 0)
-  code2 = placed (s .args .layout) (s .args .values .now) (s .args .i) 2 _ _ (s .pre .1 .fitted2) (lit< tt) (omega arith) (c .code-of-number3 .ensures)
+  code2 = placed (s .args .layout) (s .args .values .now) (s .pre .0) (s .args .i) 2 _ _ (s .pre .1 .fitted2) (lit< tt) (omega arith) (c .code-of-number3 .ensures)
 
 mul-code-of-number : tie.Need-mul-code-of-number
 mul-code-of-number c = search needs
