@@ -57,14 +57,18 @@ int64_t imurraqi_descriptor_read(const uint8_t *bytes, size_t len,
 int64_t imurraqi_descriptor_write(const uint8_t layout[8], uint8_t *out,
                                   size_t out_len);
 
-/* The float of a code: the f32 nearest to the fraction that it stands for.
- * Answers 0 for a brightness, 1 for a difference. Refused: 9, then 14.
+/* The float of a code: the f32 nearest to the fraction that it stands for. Every
+ * code of the depth stands for one, those that its range never makes too. Answers
+ * 0 for a brightness, 1 for a difference. Refused: 9, then 14.
  * value: one float. */
 int64_t imurraqi_dequantize(uint8_t model, uint8_t range, uint8_t depth,
                             uint8_t channel, uint16_t code, float *value);
 
-/* The code of a float, worked out from its exact value. Legacy full range makes
- * no code above 4092 at 12 bits. Refused: 9, then 12. */
+/* The code of a float, worked out from its exact value and clamped to the codes
+ * that its range makes. Narrow range makes 1 to 254, 4 to 1019 and 16 to 4079 at
+ * 8, 10 and 12 bits, since video keeps the codes beyond for timing. Legacy full
+ * range makes none above 4092 at 12 bits. Infinities give the ends. Refused: 9,
+ * then 12. */
 int64_t imurraqi_quantize(uint8_t model, uint8_t range, uint8_t depth,
                           uint8_t channel, float value);
 
@@ -84,8 +88,9 @@ int64_t imurraqi_encode_point(const uint8_t layout[8], float channel0,
                               float channel1, float channel2, uint8_t *out,
                               size_t out_len);
 
-/* Encodes a line of values, three a point in channel order, to packed points.
- * Answers the count of points. Refused: 9, then 13, then 12. */
+/* Encodes a line of values, three a point in channel order, to packed points, each
+ * value as the code that imurraqi_quantize answers. Answers the count of points.
+ * Refused: 9, then 13, then 12. */
 int64_t imurraqi_encode_line(const uint8_t layout[8], const float *values,
                              size_t len, uint8_t *out, size_t out_len);
 
@@ -95,14 +100,16 @@ int64_t imurraqi_unpack_line(const uint8_t layout[8], const uint8_t *packed,
                              size_t len, uint16_t *out, size_t out_len);
 
 /* Packs a line of codes, three a point in channel order; unused bits are zero.
- * Answers the count of points. Refused: 9, then 13, then 14. */
+ * Codes are packed as they are: none is clamped, in narrow range neither. Answers
+ * the count of points. Refused: 9, then 13, then 14. */
 int64_t imurraqi_pack_line(const uint8_t layout[8], const uint16_t *codes,
                            size_t len, uint8_t *out, size_t out_len);
 
 /* Converts a line of codes of R', G', B', three a point, to Y', Cb, Cr by the
  * weights of the primaries, into an array of the same length. range_in is the
- * range of codes, range_out that of out: any range on either side. Answers the
- * count of points. Refused: 9, then 13, then 14. */
+ * range of codes, range_out that of out: any range on either side. Any code of the
+ * depth may be given; those made are clamped as imurraqi_quantize clamps them.
+ * Answers the count of points. Refused: 9, then 13, then 14. */
 int64_t imurraqi_rgb_to_ycbcr(uint8_t primaries, uint8_t depth,
                               uint8_t range_in, uint8_t range_out,
                               const uint16_t *codes, size_t len, uint16_t *out,

@@ -1,6 +1,7 @@
 /* Finds an item in a stack of cards, shows its facts, writes and reads the
- * descriptor of its layout, and turns a line of its points into colors. Then
- * turns a line of an early capture into colors, and writes its card.
+ * descriptor of its layout, turns a line of its points into colors, and sends codes
+ * to the ends of its range. Then turns a line of an early capture into colors, and
+ * writes its card.
  * Usage: example STACK */
 #include <imurraqi.h>
 
@@ -75,6 +76,24 @@ static void show_line(const uint8_t *descriptor, size_t len)
     show_points(codes, values, colors, CODES);
 }
 
+/* Codes beyond the ends of narrow range, which video keeps for timing. They are
+ * packed and decoded as they are, but encoding makes the nearer end of them. */
+static void show_ends(const uint8_t layout[8])
+{
+    static const uint16_t codes[3] = {1023, 0, 512};
+    uint16_t made[3];
+    float values[3];
+    uint8_t point[8];
+    size_t len = layout[BYTES];
+    good(imurraqi_pack_line(layout, codes, 3, point, len));
+    good(imurraqi_decode_point(layout, point, len, values));
+    good(imurraqi_encode_point(layout, values[0], values[1], values[2], point,
+                               len));
+    good(imurraqi_unpack_line(layout, point, len, made, 3));
+    printf("Y'CbCr %d %d %d decoded and encoded: %d %d %d\n", codes[0],
+           codes[1], codes[2], made[0], made[1], made[2]);
+}
+
 /* An early capture in today's full range, and its card. Edition 3 has its range;
  * a station that is still at edition 2 can't write or read such a card. */
 static void show_early(void)
@@ -119,6 +138,7 @@ int main(int argc, char **argv)
     show_item(stack, len, 203002, layout);
     good(imurraqi_descriptor_write(layout, descriptor, sizeof descriptor));
     show_line(descriptor, sizeof descriptor);
+    show_ends(layout);
     /* A refusal is an answer too. 15: no card of the stack has the item. */
     printf("item 7: %d\n", (int)imurraqi_stack_find(stack, len, 2, 7));
     show_early();

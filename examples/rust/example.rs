@@ -1,6 +1,7 @@
 //! Finds an item in a stack of cards, shows its facts, writes and reads the
-//! descriptor of its layout, and turns a line of its points into colors. Then turns
-//! a line of an early capture into colors, and writes its card.
+//! descriptor of its layout, turns a line of its points into colors, and sends codes
+//! to the ends of its range. Then turns a line of an early capture into colors, and
+//! writes its card.
 //! Usage: example STACK
 
 use imurraqi::{access, model, primaries, range};
@@ -66,6 +67,21 @@ fn show_line(descriptor: &[u8]) -> Result<(), Refusal> {
     Ok(())
 }
 
+/// Codes beyond the ends of narrow range, which video keeps for timing. They are
+/// packed and decoded as they are, but encoding makes the nearer end of them.
+fn show_ends(layout: Layout) -> Result<(), Refusal> {
+    let codes = [1023, 0, 512];
+    let mut point = vec![0; layout.bytes.into()];
+    imurraqi::pack_line(layout, &codes, &mut point)?;
+    let values = imurraqi::decode_point(layout, &point)?;
+    imurraqi::encode_point(layout, values, &mut point)?;
+    let mut made = [0; 3];
+    imurraqi::unpack_line(layout, &point, &mut made)?;
+    let ([y, cb, cr], [y_made, cb_made, cr_made]) = (codes, made);
+    println!("Y'CbCr {y} {cb} {cr} decoded and encoded: {y_made} {cb_made} {cr_made}");
+    Ok(())
+}
+
 /// An early capture in today's full range, and its card. Edition 3 has its range; a
 /// station that is still at edition 2 can't write or read such a card.
 fn show_early() -> Result<(), Refusal> {
@@ -100,6 +116,7 @@ fn show(stack: &[u8]) -> Result<(), Refusal> {
     let mut descriptor = [0; DESCRIPTOR_SIZE];
     imurraqi::descriptor_write(layout, &mut descriptor)?;
     show_line(&descriptor)?;
+    show_ends(layout)?;
     // A refusal is an answer too, in C minus its number: no card has the item.
     if let Err(refusal @ Refusal::NO_ITEM) = imurraqi::stack_find(stack, 2, 7) {
         println!("item 7: -{}", refusal.number());

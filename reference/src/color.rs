@@ -153,6 +153,33 @@ mod tests {
     }
 
     #[test]
+    fn into_narrow_range() {
+        // White and black beyond narrow range's own are greys of its ends.
+        for (depth, low, high) in [(8, 1, 254), (10, 4, 1019), (12, 16, 4079)] {
+            let base = 1 << (depth - 1);
+            let numbers = [4, depth, 1, 1];
+            let mut made = [0; 3];
+            for (given, end) in [(0, low), ((1 << depth) - 1, high)] {
+                assert_eq!(rgb_to_ycbcr(numbers, &[given; 3], &mut made), Ok(1));
+                assert_eq!(made, [end, base, base]);
+                assert_eq!(
+                    ycbcr_to_rgb(numbers, &[given, base, base], &mut made),
+                    Ok(1)
+                );
+                assert_eq!(made, [end; 3]);
+            }
+        }
+        // R' = 1 + 1.5748/2 and 16 + 219 R' = 407.4; G' = 1 - 0.33480248/1.4304 and
+        // 16 + 219 G' = 183.7.
+        let mut made = [0; 3];
+        assert_eq!(
+            ycbcr_to_rgb([1, 8, 1, 1], &[235, 128, 240], &mut made),
+            Ok(1)
+        );
+        assert_eq!(made, [254, 184, 235]);
+    }
+
+    #[test]
     fn empty_line() {
         assert_eq!(rgb_to_ycbcr(FULL_8, &[], &mut []), Ok(0));
         assert_eq!(ycbcr_to_rgb(FULL_8, &[], &mut []), Ok(0));

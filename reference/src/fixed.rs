@@ -27,11 +27,12 @@ pub fn quantize(scale: Scale, bits: u32) -> u16 {
         (Range::LegacyFull, Kind::Brightness) => floor(HALF + (v << n)),
         (Range::LegacyFull, Kind::Difference) => floor(HALF + ((v + HALF) << n)),
     };
-    let top = match (scale.range, n) {
-        (Range::LegacyFull, 12) => 4092,
-        _ => m,
+    let (bottom, top) = match (scale.range, n) {
+        (Range::Narrow, _) => (s, 255 * s - 1),
+        (Range::LegacyFull, 12) => (0, 4092),
+        (Range::Full | Range::LegacyFull, _) => (0, m),
     };
-    number.clamp(0, top) as u16
+    number.clamp(bottom, top) as u16
 }
 
 /// v * 2^40, where v is the float's exact value if its magnitude is 2^-17 or
@@ -43,7 +44,7 @@ pub fn quantize(scale: Scale, bits: u32) -> u16 {
 ///   w is the rounded number, as it is for zero.
 /// - Fields from 129, infinity's too, make |v| >= 2^23 * 2^(129-150) = 4. There,
 ///   4 itself included, every line is beyond 0 .. 2^n - 1 and is clamped to the
-///   top or, if v is negative, to 0.
+///   top or, if v is negative, to the bottom.
 fn same_code_value(bits: u32) -> i64 {
     let field = bits >> 23 & 255;
     let fraction = i64::from(bits & 0x7f_ffff);

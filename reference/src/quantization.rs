@@ -55,7 +55,7 @@ pub fn code(scale: Scale, bits: u32) -> Result<u16, Refusal> {
     match float::value(bits) {
         Value::NotANumber => Err(Refusal::NotANumber),
         Value::PlusInfinity => Ok(scale.clamp(scale.top())),
-        Value::MinusInfinity => Ok(scale.clamp(0)),
+        Value::MinusInfinity => Ok(scale.clamp(scale.bottom())),
         Value::Finite {
             significand,
             exponent,
@@ -120,17 +120,27 @@ impl Scale {
         }
     }
 
-    /// The code nearest to a whole number: 0 up to the top.
+    /// The nearest code to a whole number, of those that are ever made.
     pub fn clamp(self, number: i128) -> u16 {
-        number.clamp(0, self.top()) as u16
+        number.clamp(self.bottom(), self.top()) as u16
     }
 
-    /// The greatest code that is ever made: 2^n - 1, but in the older full range
-    /// 255, 1023 and, at 12 bits, 4092.
+    /// The least code that is ever made: 0, but s in narrow range, where the codes
+    /// at both ends are kept for timing.
+    pub fn bottom(self) -> i128 {
+        match self.range {
+            Range::Narrow => s(self.depth),
+            Range::Full | Range::LegacyFull => 0,
+        }
+    }
+
+    /// The greatest code that is ever made: 2^n - 1, but in narrow range 255s - 1,
+    /// and in the older full range 255, 1023 and, at 12 bits, 4092.
     pub fn top(self) -> i128 {
         match (self.range, self.depth) {
+            (Range::Narrow, n) => 255 * s(n) - 1,
             (Range::LegacyFull, 12) => 4092,
-            _ => m(self.depth),
+            (Range::Full | Range::LegacyFull, n) => m(n),
         }
     }
 }
@@ -228,8 +238,8 @@ fn two_to(power: u32) -> i128 {
 ///   w + kv rounds to w. So does w + k * 0: zero has the same code.
 /// - An exponent above 60 makes |v| >= 2^23 * 2^61, since only field 0 has
 ///   significands under 2^23. So |kv| is far above w + 2^n, and w + kv is
-///   clamped to the top or, if v is negative, to 0. The same holds of 2^60 in
-///   the place of |v|.
+///   clamped to the top or, if v is negative, to the bottom. The same holds of
+///   2^60 in the place of |v|.
 ///
 /// Between the two, the fraction is exactly the float. Its numerator is then
 /// under 2^84, or its denominator at most 2^90, and the lines multiply by 2^16 at
@@ -249,6 +259,34 @@ mod tests {
     use crate::refusal::Refusal;
 
     const INFINITY: u32 = 0x7f80_0000;
+    const MINUS_INFINITY: u32 = 0xff80_0000;
+
+    #[test]
+    fn the_ends_of_narrow_range() {
+        for (depth, low, high) in [(8, 1, 254), (10, 4, 1019), (12, 16, 4079)] {
+            for channel in [0, 1] {
+                let back = |code| {
+                    let (_, bits) = dequantize(2, 1, depth, channel, code).expect("a code");
+                    quantize(2, 1, depth, channel, bits)
+                };
+                assert_eq!(quantize(2, 1, depth, channel, INFINITY), Ok(high));
+                assert_eq!(quantize(2, 1, depth, channel, MINUS_INFINITY), Ok(low));
+                for inside in [low, low + 1, high - 1, high] {
+                    assert_eq!(back(inside), Ok(inside));
+                }
+                for under in 0..low {
+                    assert_eq!(back(under), Ok(low));
+                }
+                for above in high + 1..1 << depth {
+                    assert_eq!(back(above), Ok(high));
+                }
+            }
+        }
+        // 16 + 219 * 1.25 = 289.75, and 128 - 224 * 0.75 = -40.
+        assert_eq!(quantize(1, 1, 8, 0, 1.25_f32.to_bits()), Ok(254));
+        assert_eq!(quantize(2, 1, 8, 1, (-0.75_f32).to_bits()), Ok(1));
+        assert_eq!(dequantize(1, 1, 8, 0, 256), Err(Refusal::CodeTooHigh));
+    }
 
     #[test]
     fn the_older_full_range() {

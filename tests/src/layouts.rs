@@ -69,6 +69,19 @@ pub fn one_of_each_size() -> impl Iterator<Item = Layout> {
         .map(layout)
 }
 
+/// The layout with both models and every range, so that its depth meets every scale.
+pub fn on_every_scale(layout: Layout) -> impl Iterator<Item = Layout> {
+    let colors = RANGES
+        .into_iter()
+        .flat_map(|range| [(1, range), (2, range)]);
+    colors.map(move |(model, range)| {
+        let mut changed = layout;
+        changed[MODEL] = model;
+        changed[RANGE] = range;
+        changed
+    })
+}
+
 /// The layout with each of its numbers in turn at each of its 256 values: with
 /// overlaps, with fields past the end, with every number out of range.
 pub fn changed(layout: Layout) -> impl Iterator<Item = Layout> {

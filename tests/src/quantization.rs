@@ -21,6 +21,7 @@ mod refusals;
 pub const PARTS: &[Part] = &[
     part("marked examples and traps", examples::marked),
     part("published figures", examples::published),
+    part("quantize, the ends of narrow range", examples::narrow_ends),
     part("quantize, not-a-numbers", floats::not_a_numbers),
     part("dequantize, then quantize back", codes::there_and_back),
     part("refusals, one input at a time", refusals::single),

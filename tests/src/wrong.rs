@@ -34,6 +34,7 @@ mod converts;
 mod decode;
 mod descriptor;
 mod encode;
+mod ends;
 mod history;
 mod list;
 mod pack;
@@ -72,12 +73,15 @@ pub const RIGHT: &[Library] = &[REFERENCE, PLAIN];
 /// The wrong programs of each subject, with the parts that must catch them.
 pub const WRONG: &[(&[Part], &[Wrong])] = &[
     (values::PARTS, quantization::WRONG),
+    (values::PARTS, ends::QUANTIZING),
     (lines::PARTS, unpack::WRONG),
     (lines::PARTS, pack::WRONG),
     (lines::PARTS, decode::WRONG),
     (lines::PARTS, encode::WRONG),
+    (lines::PARTS, ends::ENCODING),
     (descriptors::PARTS, descriptor::WRONG),
     (colors::PARTS, color::WRONG),
+    (colors::PARTS, ends::CONVERTING),
     (colors::PARTS, color_formulas::WRONG),
     (colors::PARTS, color_reckoning::WRONG),
     (colors::PARTS, color_lines::WRONG),

@@ -58,12 +58,14 @@ fn convert(
         return CODE_TOO_HIGH;
     }
     let [first, second, third] = rows(conversion, weights);
-    let top = Scale::new(range_out, depth, false).top as u64;
+    // Both kinds have the same ends.
+    let made = Scale::new(range_out, depth, false);
+    let (bottom, top) = (made.bottom as u64, made.top as u64);
     for (codes, out) in codes.chunks_exact(3).zip(out.chunks_exact_mut(3)) {
         let point = [codes[0], codes[1], codes[2]].map(u64::from);
-        out[0] = first.number(point).min(top) as u16;
-        out[1] = second.number(point).min(top) as u16;
-        out[2] = third.number(point).min(top) as u16;
+        out[0] = first.number(point).clamp(bottom, top) as u16;
+        out[1] = second.number(point).clamp(bottom, top) as u16;
+        out[2] = third.number(point).clamp(bottom, top) as u16;
     }
     count as i64
 }

@@ -14,11 +14,13 @@ pub struct Layout {
     pub scales: [Scale; 3],
 }
 
-/// A code is the base plus the value times the span, rounded and brought to 0 .. top.
+/// A code is the base plus the value times the span, rounded and brought to
+/// bottom .. top.
 #[derive(Clone, Copy)]
 pub struct Scale {
     pub span: i64,
     pub base: i64,
+    pub bottom: i64,
     pub top: i64,
 }
 
@@ -79,10 +81,16 @@ impl Scale {
             2 => ((1 << depth) - 1, middle),
             _ => (1 << depth, middle),
         };
-        let top = match (range, depth) {
-            (3, 12) => 4092,
-            _ => (1 << depth) - 1,
+        let (bottom, top) = match (range, depth) {
+            (1, _) => (1 << (depth - 8), (255 << (depth - 8)) - 1),
+            (3, 12) => (0, 4092),
+            _ => (0, (1 << depth) - 1),
         };
-        Scale { span, base, top }
+        Scale {
+            span,
+            base,
+            bottom,
+            top,
+        }
     }
 }

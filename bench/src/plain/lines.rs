@@ -175,7 +175,7 @@ fn encode<const BYTES: usize>(layout: Layout, values: &[f32], packed: &mut [u8])
 /// f64 holds the product.
 pub fn code(scale: Scale, value: f32) -> u64 {
     let number = f64::from(value) * scale.span as f64 + (scale.base as f64 + 0.5);
-    number.clamp(0.0, scale.top as f64) as i32 as u64
+    number.clamp(scale.bottom as f64, scale.top as f64) as i32 as u64
 }
 
 /// The bits of a float without its sign.

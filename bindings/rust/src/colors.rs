@@ -49,8 +49,9 @@ fn convert(
 }
 
 /// Converts a line of codes of R', G' and B', three a point, to Y', Cb and Cr, into
-/// a slice of the same length. Answers the count of points. Refused: 9, then 13,
-/// then 14.
+/// a slice of the same length. Any code of the depth may be given; those made are
+/// clamped as [`quantize`](crate::quantize) clamps them. Answers the count of points.
+/// Refused: 9, then 13, then 14.
 ///
 /// ```
 /// use imurraqi::{primaries, range, rgb_to_ycbcr, Conversion};

@@ -24,7 +24,8 @@ pub mod primaries {
 
 /// Ranges of codes.
 pub mod range {
-    /// A brightness from 0 to 1 has the codes 16 s to 235 s, with s = 2^(depth-8).
+    /// A brightness from 0 to 1 has the codes 16 s to 235 s, with s = 2^(depth-8). No
+    /// code under s or above 255 s - 1 is made.
     pub const NARROW: u8 = 1;
     /// A brightness from 0 to 1 has all codes of its depth.
     pub const FULL: u8 = 2;

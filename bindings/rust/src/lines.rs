@@ -93,8 +93,9 @@ pub fn encode_point(layout: Layout, point: [f32; 3], out: &mut [u8]) -> Result<(
     })
 }
 
-/// Encodes a line of floats, three a point in channel order, to packed points.
-/// Answers the count of points. Refused: 9, then 13, then 12.
+/// Encodes a line of floats, three a point in channel order, to packed points, each
+/// float as the code that [`quantize`](crate::quantize) answers. Answers the count of
+/// points. Refused: 9, then 13, then 12.
 ///
 /// ```
 /// use imurraqi::{encode_line, Layout, Refusal};
@@ -131,17 +132,26 @@ pub fn unpack_line(layout: Layout, packed: &[u8], out: &mut [u16]) -> Result<usi
     line(ffi::imurraqi_unpack_line, layout, packed, out)
 }
 
-/// Packs a line of codes, three a point in channel order; unused bits are zero.
-/// Answers the count of points. Refused: 9, then 13, then 14.
+/// Packs a line of codes, three a point in channel order; unused bits are zero. Codes
+/// are packed as they are: none is clamped, in narrow range neither. Answers the count
+/// of points. Refused: 9, then 13, then 14.
 ///
 /// ```
-/// use imurraqi::{pack_line, Layout, MOST_POINTS};
+/// use imurraqi::{encode_point, pack_line, Layout, Refusal, MOST_POINTS};
 ///
 /// let layout = Layout::from_bytes([2, 2, 1, 10, 4, 0, 10, 20]);
 /// let mut packed = [0; 4 * MOST_POINTS];
 /// let codes = [174, 960, 64].repeat(MOST_POINTS);
 /// assert_eq!(pack_line(layout, &codes, &mut packed), Ok(MOST_POINTS));
 /// assert_eq!(packed[..4], [0xae, 0x00, 0x0f, 0x04]);
+///
+/// // Codes that encoding never makes, and what it makes.
+/// let mut point = [0; 4];
+/// pack_line(layout, &[1023, 0, 1023], &mut point)?;
+/// assert_eq!(point, [0xff, 0x03, 0xf0, 0x3f]);
+/// encode_point(layout, [2.0, -1.0, f32::INFINITY], &mut point)?;
+/// assert_eq!(point, [0xfb, 0x13, 0xb0, 0x3f]);
+/// # Ok::<(), Refusal>(())
 /// ```
 #[inline]
 pub fn pack_line(layout: Layout, codes: &[u16], out: &mut [u8]) -> Result<usize, Refusal> {

@@ -36,14 +36,16 @@ impl Dequantized {
     }
 }
 
-/// The float of a code: the f32 nearest to the fraction that it stands for.
-/// Refused: 9, then 14.
+/// The float of a code: the f32 nearest to the fraction that it stands for. Every code
+/// of the depth stands for one, those that its range never makes too. Refused: 9, then
+/// 14.
 ///
 /// ```
 /// use imurraqi::{dequantize, model, range, Dequantized, Refusal, Setting};
 ///
 /// let cb = Setting { model: model::YCBCR, range: range::NARROW, depth: 10, channel: 1 };
 /// assert_eq!(dequantize(cb, 960), Ok(Dequantized::Difference(0.5)));
+/// assert_eq!(dequantize(cb, 1023), Ok(Dequantized::Difference(511.0 / 896.0)));
 /// assert_eq!(dequantize(cb, 1024), Err(Refusal::CODE_TOO_HIGH));
 /// let early = Setting { range: range::LEGACY_FULL, depth: 8, ..cb };
 /// assert_eq!(dequantize(early, 64), Ok(Dequantized::Difference(-0.25)));
@@ -67,15 +69,18 @@ pub fn dequantize(setting: Setting, code: u16) -> Result<Dequantized, Refusal> {
     })
 }
 
-/// The code of a float, worked out from its exact value. Legacy full range makes no
-/// code above 4092 at 12 bits. Refused: 9, then 12.
+/// The code of a float, worked out from its exact value and clamped to the codes that
+/// its range makes. Narrow range makes 1 to 254, 4 to 1019 and 16 to 4079 at 8, 10 and
+/// 12 bits, since video keeps the codes beyond for timing. Legacy full range makes none
+/// above 4092 at 12 bits. Infinities give the ends. Refused: 9, then 12.
 ///
 /// ```
 /// use imurraqi::{model, quantize, range, Refusal, Setting};
 ///
 /// let cb = Setting { model: model::YCBCR, range: range::NARROW, depth: 10, channel: 1 };
 /// assert_eq!(quantize(cb, 0.5), Ok(960));
-/// assert_eq!(quantize(cb, f32::INFINITY), Ok(1023));
+/// assert_eq!(quantize(cb, 511.0 / 896.0), Ok(1019));
+/// assert_eq!(quantize(cb, f32::NEG_INFINITY), Ok(4));
 /// assert_eq!(quantize(cb, f32::NAN), Err(Refusal::NOT_A_NUMBER));
 /// let early = Setting { range: range::LEGACY_FULL, depth: 12, ..cb };
 /// assert_eq!(quantize(early, 0.5), Ok(4092));

@@ -1,6 +1,6 @@
 //! The paper's marked examples M11 and M12, and points worked out by hand, in the
-//! older full range too. The
-//! library and the reference are both compared with them.
+//! older full range and at the ends of narrow range too. The library and the reference
+//! are both compared with them.
 
 use crate::guarded::{Guarded, Outcome};
 use crate::library::{Conversion, Direction, Library};
@@ -33,7 +33,7 @@ const fn example(
     }
 }
 
-const MARKED: [Example; 21] = [
+const MARKED: [Example; 32] = [
     example("M11", RgbToYcbcr, [1, 8, 2, 2], [255, 0, 0], [54, 99, 255]),
     example("M12", YcbcrToRgb, [1, 8, 2, 2], [54, 99, 255], [254, 0, 0]),
     // Cb of blue and Cr of red are 1/2, of yellow and cyan -1/2: the ends of narrow
@@ -77,14 +77,14 @@ const MARKED: [Example; 21] = [
         YcbcrToRgb,
         [1, 10, 1, 1],
         [502, 512, 960],
-        [1023, 297, 502],
+        [1019, 297, 502],
     ),
     example(
         "Cr at its lower end",
         YcbcrToRgb,
         [1, 10, 1, 1],
         [502, 512, 64],
-        [0, 707, 502],
+        [4, 707, 502],
     ),
     example(
         "black to full",
@@ -184,6 +184,91 @@ const MARKED: [Example; 21] = [
         [3, 12, 3, 3],
         [4094; 3],
         [4092, 2048, 2048],
+    ),
+    // Beyond narrow range: 128 + 224 * 255/438 = 258.4110, clamped, as are -2.4110,
+    // 1035.1781, -11.1781, 4142.2466 and -46.2466.
+    example(
+        "over blue",
+        RgbToYcbcr,
+        [1, 8, 1, 1],
+        [0, 0, 255],
+        [18, 254, 116],
+    ),
+    example(
+        "over yellow",
+        RgbToYcbcr,
+        [1, 8, 1, 1],
+        [255, 255, 0],
+        [237, 1, 140],
+    ),
+    example(
+        "over blue",
+        RgbToYcbcr,
+        [4, 10, 1, 1],
+        [0, 0, 1023],
+        [61, 1019, 470],
+    ),
+    example(
+        "over yellow",
+        RgbToYcbcr,
+        [4, 10, 1, 1],
+        [1023, 1023, 0],
+        [962, 4, 554],
+    ),
+    example(
+        "over red",
+        RgbToYcbcr,
+        [2, 12, 1, 1],
+        [4095, 0, 0],
+        [1224, 1341, 4079],
+    ),
+    example(
+        "over cyan",
+        RgbToYcbcr,
+        [2, 12, 1, 1],
+        [0, 4095, 4095],
+        [2871, 2755, 16],
+    ),
+    // Into narrow range from full: R' = 1 + 1.5748 * 127/255 and 16 + 219 R' =
+    // 406.7644; R' = -1.5748 * 128/255 and 16 + 219 R' = -157.1168.
+    example(
+        "white with the most of Cr",
+        YcbcrToRgb,
+        [1, 8, 2, 1],
+        [255, 128, 255],
+        [254, 184, 235],
+    ),
+    example(
+        "black with the least of Cr",
+        YcbcrToRgb,
+        [1, 8, 2, 1],
+        [0, 128, 0],
+        [1, 67, 16],
+    ),
+    // And from the older full range: B' = 4095/4096 + 1.772 * 2047/4096 and
+    // 16 (16 + 219 B') = 6862.1726; B' = -0.886 and 16 (16 + 219 B') = -2848.5440.
+    example(
+        "older white with the most of Cb",
+        YcbcrToRgb,
+        [2, 12, 3, 1],
+        [4095, 4095, 2048],
+        [3759, 3157, 4079],
+    ),
+    example(
+        "older black with the least of Cb",
+        YcbcrToRgb,
+        [2, 12, 3, 1],
+        [0, 0, 2048],
+        [256, 859, 16],
+    ),
+    // A narrow code that is never made is worth what the formula says: with 1 for the
+    // 0 and 254 for the 255, B' would be 249.
+    example(
+        "narrow 0 and 255 to full",
+        YcbcrToRgb,
+        [1, 8, 1, 2],
+        [0, 255, 128],
+        [0, 0, 250],
     ),
 ];
 

@@ -30,26 +30,31 @@ fn all_of([firsts, seconds, thirds]: [&[u16]; 3]) -> Vec<u16> {
     codes
 }
 
-/// The ends of the codes, the ends of narrow range, the base of differences, and
-/// neighbours of these; at 12 bits the top of the older full range too.
+/// The ends of the codes, those of narrow range and of what it makes, the base of
+/// differences, and neighbours of these; at 12 bits the top of the older full range
+/// too.
 pub fn corners(depth: u8) -> Vec<u16> {
     let s = 1 << (depth - 8);
     let middle = 128 * s;
     let top = greatest_code(depth);
     let mut numbers = vec![
         0,
-        1,
+        s - 1,
+        s,
         16 * s,
         middle - 1,
         middle,
         middle + 1,
         235 * s,
         240 * s,
+        255 * s - 1,
+        255 * s,
         top - 3,
         top - 2,
         top - 1,
         top,
     ];
+    numbers.sort();
     numbers.dedup();
     numbers
 }

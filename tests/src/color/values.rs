@@ -1,8 +1,10 @@
 //! Which codes become which: corners, greys, random codes, and a grid.
 
 use crate::guarded::{Guarded, Outcome};
-use crate::layouts::{LEGACY, RANGES};
+use crate::layouts::RANGES;
 use crate::library::{Conversion, Direction, Library};
+use crate::plain::quantization::returned;
+use crate::quantization::scale_of;
 use crate::random::Random;
 use crate::tally::{Flow, Tally};
 
@@ -28,8 +30,8 @@ pub fn corners(library: &Library, tally: &mut Tally) -> Flow {
 }
 
 /// Three equal R'G'B' codes are the same Y' code with both differences at their
-/// base, and back, if the range stays; but the three codes that the older full
-/// range never makes become its top.
+/// base, and back, if the range stays; but the codes that the range never makes
+/// become its nearer end.
 pub fn greys(library: &Library, tally: &mut Tally) -> Flow {
     for depth in DEPTHS {
         let base = 1 << (depth - 1);
@@ -39,10 +41,7 @@ pub fn greys(library: &Library, tally: &mut Tally) -> Flow {
                 for range in RANGES {
                     let conversion = [primaries, depth, range, range];
                     let [there, back] = DIRECTIONS;
-                    let made = match (range, depth, code) {
-                        (LEGACY, 12, 4093..) => 4092,
-                        _ => code,
-                    };
+                    let made = returned(scale_of([1, range, depth, 0]), code);
                     becomes(library, tally, there, conversion, rgb, [made, base, base])?;
                     becomes(library, tally, back, conversion, ycbcr, [made; 3])?;
                 }

@@ -21,7 +21,7 @@ struct Example {
 /// The float just under 1/8, namely 1/8 - 2^-27.
 const UNDER_AN_EIGHTH: f32 = 0.125 - 1.0 / 134_217_728.0;
 
-const EXAMPLES: [Example; 6] = [
+const EXAMPLES: [Example; 9] = [
     Example {
         name: "M1, M3, M2, a byte each",
         layout: [2, 1, 1, 8, 3, 0, 8, 16],
@@ -78,6 +78,36 @@ const EXAMPLES: [Example; 6] = [
         codes: [1, 4092, 4092],
         decoded: [1.0 / 4096.0, 2044.0 / 4096.0, 2044.0 / 4096.0],
         packed: &[0x01, 0xc0, 0xff, 0xfc, 0x0f],
+        unused: &[0, 0, 0, 0, 0xf0],
+    },
+    // 16 + 219 * 2 = 454, 128 - 224 = -96.
+    Example {
+        name: "the ends of narrow range, a byte each",
+        layout: [2, 1, 1, 8, 3, 0, 8, 16],
+        values: [2.0, -1.0, f32::INFINITY],
+        codes: [254, 1, 254],
+        decoded: [238.0 / 219.0, -127.0 / 224.0, 126.0 / 224.0],
+        packed: &[254, 1, 254],
+        unused: &[0, 0, 0],
+    },
+    // 4 (16 + 219 * 1.25) = 1159, 4 (16 - 219 / 4) = -155: 4 * 2^20 + 4 * 2^10 + 1019.
+    Example {
+        name: "the ends of narrow range at 10 bits, the last channel lowest",
+        layout: [1, 4, 1, 10, 4, 20, 10, 0],
+        values: [f32::NEG_INFINITY, -0.25, 1.25],
+        codes: [4, 4, 1019],
+        decoded: [-60.0 / 876.0, -60.0 / 876.0, 955.0 / 876.0],
+        packed: &[0xfb, 0x13, 0x40, 0x00],
+        unused: &[0, 0, 0, 0xc0],
+    },
+    // 16 (128 + 224 * 0.75) = 4736: 16 * 2^24 + 0xfef * 2^12 + 16, and 4079 is 0xfef.
+    Example {
+        name: "the ends of narrow range at 12 bits",
+        layout: [2, 2, 1, 12, 5, 0, 12, 24],
+        values: [-0.25, 0.75, -0.75],
+        codes: [16, 4079, 16],
+        decoded: [-240.0 / 3504.0, 2031.0 / 3584.0, -2032.0 / 3584.0],
+        packed: &[0x10, 0xf0, 0xfe, 0x10, 0x00],
         unused: &[0, 0, 0, 0, 0xf0],
     },
 ];

@@ -38,6 +38,15 @@ pub fn codes(layout: Layout, points: usize, random: &mut Random) -> Vec<u16> {
         .collect()
 }
 
+/// Every code of the layout's depth in every channel, three a point: rising, falling,
+/// rising.
+pub fn every_code(layout: Layout) -> Vec<u16> {
+    let greatest = greatest_code(layout);
+    (0..=greatest)
+        .flat_map(|code| [code, greatest - code, code])
+        .collect()
+}
+
 pub fn values(points: usize, random: &mut Random) -> Vec<f32> {
     (0..3 * points).map(|_| value(random)).collect()
 }

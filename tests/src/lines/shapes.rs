@@ -1,12 +1,14 @@
 //! Every layout with short lines, and some of each size with the longest.
 
 use crate::guarded::Outcome;
-use crate::layouts::{self, bytes_a_point, DEPTH, LEGACY, RANGE};
+use crate::layouts::{self, bytes_a_point, DEPTH, MODEL, RANGE};
 use crate::library::{Layout, Library};
+use crate::plain::quantization::returned;
+use crate::quantization::scale_of;
 use crate::random::Random;
 use crate::tally::{Flow, Tally};
 
-use super::inputs::{self, codes, value};
+use super::inputs::{self, codes, every_code, value};
 use super::{
     compare_decode_line, compare_decode_point, compare_encode_line, compare_encode_point,
     compare_pack_line, compare_unpack_line, expected_pack_line, packed_length, MOST_POINTS,
@@ -55,9 +57,9 @@ pub fn there_and_back(library: &Library, tally: &mut Tally) -> Flow {
 }
 
 /// Any line, decoded and encoded, must come back, its unused bits cleared, as it
-/// does when it is unpacked and packed; but the three codes that the older full
-/// range never makes come back as its top. This too compares the library with itself:
-/// on any bytes, and on two points with many of the greatest code.
+/// does when it is unpacked and packed; but the codes that its range never makes come
+/// back as the nearer end. This too compares the library with itself: on any bytes,
+/// and on two points with many of the greatest code.
 pub fn decoded_and_back(library: &Library, tally: &mut Tally) -> Flow {
     let mut random = Random::new();
     for layout in layouts::chosen() {
@@ -70,30 +72,65 @@ pub fn decoded_and_back(library: &Library, tally: &mut Tally) -> Flow {
             let mut codes = Outcome::of(3 * points, |out| {
                 (library.unpack_line)(layout, &packed, out)
             });
-            let codes = codes.output.output();
-            if (layout[RANGE], layout[DEPTH]) == (LEGACY, 12) {
-                codes.iter_mut().for_each(|code| *code = (*code).min(4092));
-            }
-            let mut cleared =
-                Outcome::of(packed.len(), |out| (library.pack_line)(layout, codes, out));
-            let there = Outcome::of(3 * points, |out| {
-                (library.decode_line)(layout, &packed, out)
-            });
-            let values: Vec<f32> = there
-                .output
-                .elements()
-                .iter()
-                .map(|&bits| f32::from_bits(bits))
-                .collect();
-            let mut back = Outcome::of(packed.len(), |out| {
-                (library.encode_line)(layout, &values, out)
-            });
-            tally.compare(back.output.output() == cleared.output.output(), || {
+            let codes = coming_back(layout, codes.output.output());
+            let cleared = Outcome::of(packed.len(), |out| (library.pack_line)(layout, &codes, out));
+            let back = decoded_and_encoded(library, layout, &packed);
+            tally.compare(back == cleared.output.elements(), || {
                 format!("there and back {layout:?}, {points} points: the bytes differ")
             })?;
         }
     }
     Flow::Continue(())
+}
+
+/// Every code of every channel, on every scale, decoded and encoded: a line of all, and
+/// each point of it alone.
+pub fn every_code_back(library: &Library, tally: &mut Tally) -> Flow {
+    for layout in layouts::one_of_each_size().flat_map(layouts::on_every_scale) {
+        let codes = every_code(layout);
+        let packed = packed_by_reference(layout, &codes);
+        let must_be = packed_by_reference(layout, &coming_back(layout, &codes));
+        let back = decoded_and_encoded(library, layout, &packed);
+        tally.compare(back == must_be, || {
+            format!("there and back {layout:?}, every code: the bytes differ")
+        })?;
+        let size = bytes_a_point(layout);
+        for (point, must_be) in packed.chunks(size).zip(must_be.chunks(size)) {
+            let there = Outcome::of(3, |out| (library.decode_point)(layout, point, out));
+            let [first, second, third] = there.output.elements() else {
+                unreachable!("a point has three floats");
+            };
+            let values = [first, second, third].map(|&bits| f32::from_bits(bits));
+            let back = Outcome::of(size, |out| (library.encode_point)(layout, values, out));
+            let back = back.output.elements();
+            tally.compare(back == must_be, || {
+                format!("there and back {layout:?}, {point:x?}: {back:x?}, must be {must_be:x?}")
+            })?;
+        }
+    }
+    Flow::Continue(())
+}
+
+/// The codes that a line comes back with when it is decoded and encoded.
+fn coming_back(layout: Layout, codes: &[u16]) -> Vec<u16> {
+    // All channels have the same ends.
+    let scale = scale_of([layout[MODEL], layout[RANGE], layout[DEPTH], 0]);
+    codes.iter().map(|&code| returned(scale, code)).collect()
+}
+
+fn decoded_and_encoded(library: &Library, layout: Layout, packed: &[u8]) -> Vec<u8> {
+    let elements = packed.len() / bytes_a_point(layout) * 3;
+    let there = Outcome::of(elements, |out| (library.decode_line)(layout, packed, out));
+    let values: Vec<f32> = there
+        .output
+        .elements()
+        .iter()
+        .map(|&bits| f32::from_bits(bits))
+        .collect();
+    let back = Outcome::of(packed.len(), |out| {
+        (library.encode_line)(layout, &values, out)
+    });
+    back.output.elements().to_vec()
 }
 
 fn packed_by_reference(layout: Layout, codes: &[u16]) -> Vec<u8> {

@@ -2,17 +2,17 @@
 //! at the edge.
 
 use crate::guarded::Outcome;
-use crate::layouts::{self, DEPTH, MODEL, RANGE, RANGES};
+use crate::layouts::{self, DEPTH, RANGES};
 use crate::library::{Layout, Library};
-use crate::quantization::floats::{around_codes, around_ties, at_every_exponent};
+use crate::quantization::floats::{around_codes, around_ends, around_ties, at_every_exponent};
 use crate::quantization::scale_of;
 use crate::random::Random;
 use crate::tally::{Flow, Tally};
 
 use super::inputs::{self, greatest_code};
 use super::{
-    compare_decode_line, compare_encode_line, compare_encode_point, compare_pack_line,
-    expected_pack_line, packed_length, MOST_POINTS,
+    compare_decode_line, compare_decode_point, compare_encode_line, compare_encode_point,
+    compare_pack_line, compare_unpack_line, expected_pack_line, packed_length, MOST_POINTS,
 };
 
 /// Not-a-numbers: quiet, negative, and signalling with the lowest bit, with the
@@ -25,23 +25,20 @@ const NOT_A_NUMBERS: [u32; 5] = [
     0x7fbf_ffff,
 ];
 
-/// Every code of every channel, on every scale, and with every size of a point. The
-/// lines are packed by the reference.
+/// Every code of every channel, on every scale, and with every size of a point: those
+/// that a range never makes are decoded, unpacked and packed as the others are. The
+/// lines to read are packed by the reference.
 pub fn every_code(library: &Library, tally: &mut Tally) -> Flow {
-    for layout in layouts::one_of_each_size() {
-        for (model, range) in RANGES
-            .into_iter()
-            .flat_map(|range| [(1, range), (2, range)])
-        {
-            let mut layout = layout;
-            layout[MODEL] = model;
-            layout[RANGE] = range;
-            let codes: Vec<u16> = (0..=greatest_code(layout))
-                .flat_map(|code| [code, greatest_code(layout) - code, code])
-                .collect();
-            let length = packed_length(layout, codes.len() / 3);
-            let mut packed = Outcome::of(length, |out| expected_pack_line(layout, &codes, out));
-            compare_decode_line(library, tally, layout, packed.output.output(), codes.len())?;
+    for layout in layouts::one_of_each_size().flat_map(layouts::on_every_scale) {
+        let codes = inputs::every_code(layout);
+        let length = packed_length(layout, codes.len() / 3);
+        let packed = Outcome::of(length, |out| expected_pack_line(layout, &codes, out));
+        let packed = packed.output.elements();
+        compare_decode_line(library, tally, layout, packed, codes.len())?;
+        compare_unpack_line(library, tally, layout, packed, codes.len())?;
+        compare_pack_line(library, tally, layout, &codes, length)?;
+        for point in packed.chunks(packed_length(layout, 1)) {
+            compare_decode_point(library, tally, layout, point)?;
         }
     }
     Flow::Continue(())
@@ -83,6 +80,24 @@ pub fn infinities(library: &Library, tally: &mut Tally) -> Flow {
     let magnitudes = [f32::INFINITY, f32::MAX, least];
     compare_at_places(library, tally, &magnitudes)?;
     compare_at_places(library, tally, &magnitudes.map(|value| -value))
+}
+
+/// The floats around the ends of every scale, as a line, and each as a point.
+pub fn ends(library: &Library, tally: &mut Tally) -> Flow {
+    for layout in layouts::one_of_each_size().flat_map(layouts::on_every_scale) {
+        let [model, _, range, depth, ..] = layout;
+        let points: Vec<[f32; 3]> = [0, 1]
+            .into_iter()
+            .flat_map(|channel| around_ends(scale_of([model, range, depth, channel])))
+            .map(|bits| [f32::from_bits(bits); 3])
+            .collect();
+        let length = packed_length(layout, points.len());
+        compare_encode_line(library, tally, layout, points.as_flattened(), length)?;
+        for point in points {
+            compare_encode_point(library, tally, layout, point, packed_length(layout, 1))?;
+        }
+    }
+    Flow::Continue(())
 }
 
 /// The floats around every tie and every code of both kinds, and at every

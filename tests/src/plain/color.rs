@@ -8,7 +8,7 @@ use crate::guarded::Guarded;
 use crate::library::{Conversion, Direction};
 use crate::quantization::{refused, scale_of};
 
-use super::quantization::{line, top, Line};
+use super::quantization::{ends, line, Ends, Line};
 
 /// One, in ten-thousandths.
 pub const ONE: i128 = 10_000;
@@ -27,7 +27,7 @@ pub struct Pieces {
     pub ycbcr: Formulas,
     pub rgb: Formulas,
     pub round: fn(Ratio) -> i128,
-    pub top: fn(Scale) -> i64,
+    pub ends: Ends,
 }
 
 pub const PIECES: Pieces = Pieces {
@@ -36,7 +36,7 @@ pub const PIECES: Pieces = Pieces {
     ycbcr,
     rgb,
     round: half_up,
-    top,
+    ends,
 };
 
 /// Converts with the given pieces.
@@ -47,7 +47,7 @@ pub fn converted(
     out: &mut Guarded<u16>,
     pieces: Pieces,
 ) -> i64 {
-    clamped(conversion, codes, out, pieces.top, |point| {
+    clamped(direction, conversion, codes, out, pieces.ends, |point| {
         let values = values(direction, conversion, pieces.line, point);
         let [primaries, ..] = conversion;
         let weights = (pieces.weights)(primaries);
@@ -65,32 +65,35 @@ pub fn converted(
 
 /// The whole numbers of each point are the rule's; refusals and clamping are right.
 pub fn pointwise(
+    direction: Direction,
     conversion: Conversion,
     codes: &mut Guarded<u16>,
     out: &mut Guarded<u16>,
     rule: impl Fn([u16; 3]) -> [i128; 3],
 ) -> i64 {
-    clamped(conversion, codes, out, top, rule)
+    clamped(direction, conversion, codes, out, ends, rule)
 }
 
-/// The same with another top.
+/// The same with other ends.
 fn clamped(
+    direction: Direction,
     conversion: Conversion,
     codes: &mut Guarded<u16>,
     out: &mut Guarded<u16>,
-    top: fn(Scale) -> i64,
+    ends: Ends,
     rule: impl Fn([u16; 3]) -> [i128; 3],
 ) -> i64 {
     if let Some(refusal) = refusal(conversion, codes.elements(), out.length()) {
         return refused(refusal);
     }
-    // All scales of a range and a depth have one top.
-    let [_, depth, _, range_out] = conversion;
-    let top = top(scale_of([1, range_out, depth, 0]));
+    let ends = made_scales(direction, conversion).map(|scale| ends(scale).map(i128::from));
     let (points, _) = codes.elements().as_chunks();
     for (&point, made) in points.iter().zip(out.output().chunks_mut(3)) {
-        let numbers = rule(point).map(|number| number.clamp(0, top.into()) as u16);
-        made.copy_from_slice(&numbers);
+        let numbers = rule(point);
+        for channel in 0..3 {
+            let [least, greatest] = ends[channel];
+            made[channel] = numbers[channel].clamp(least, greatest) as u16;
+        }
     }
     points.len() as i64
 }

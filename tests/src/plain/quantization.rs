@@ -22,14 +22,30 @@ pub fn line(scale: Scale) -> (i32, i32) {
     }
 }
 
-/// The greatest code that is made.
-pub fn top(scale: Scale) -> i64 {
-    let never_made = if scale.range == Range::LegacyFull && scale.depth == 12 {
-        3
-    } else {
-        0
-    };
-    (1 << scale.depth) - 1 - never_made
+/// The least and the greatest code that a scale makes.
+pub type Ends = fn(Scale) -> [i64; 2];
+
+/// As the requests print them.
+pub fn ends(scale: Scale) -> [i64; 2] {
+    match (scale.range, scale.depth) {
+        (Range::Narrow, 8) => [1, 254],
+        (Range::Narrow, 10) => [4, 1019],
+        (Range::Narrow, _) => [16, 4079],
+        (Range::LegacyFull, 12) => [0, 4092],
+        (Range::Full | Range::LegacyFull, _) => all_codes(scale),
+    }
+}
+
+/// The ends of all codes of the depth.
+pub fn all_codes(scale: Scale) -> [i64; 2] {
+    [0, (1 << scale.depth) - 1]
+}
+
+/// What a code comes back as when it is decoded and encoded, or converted to grey:
+/// itself, or the nearest code that its scale makes.
+pub fn returned(scale: Scale, code: u16) -> u16 {
+    let [least, greatest] = ends(scale);
+    i64::from(code).clamp(least, greatest) as u16
 }
 
 /// Dequantizes with the given line and division.
@@ -60,22 +76,25 @@ pub fn rounded(setting: Setting, value: f32, line: Line, round: fn(f64) -> f64) 
 
 /// The whole number is the rule's; refusals and clamping are right.
 pub fn numbered(setting: Setting, value: f32, rule: impl Fn(Scale, f32) -> f64) -> i64 {
-    clamped(setting, value, rule, top)
+    clamped(setting, value, rule, ends)
 }
 
-/// Quantizes with the given rule for the whole number and the given top.
-pub fn clamped(
-    setting: Setting,
-    value: f32,
-    rule: impl Fn(Scale, f32) -> f64,
-    top: fn(Scale) -> i64,
-) -> i64 {
+/// Quantizes with the given rule for the whole number and the given ends.
+pub fn clamped(setting: Setting, value: f32, rule: impl Fn(Scale, f32) -> f64, ends: Ends) -> i64 {
     match scale(setting) {
         Err(refusal) => refused(refusal),
         Ok(_) if value.is_nan() => refused(Refusal::NotANumber),
-        // A float beyond 64 bits, infinities too, becomes the last number there.
-        Ok(scale) => (rule(scale, value) as i64).clamp(0, top(scale)),
+        Ok(scale) => {
+            let [least, greatest] = ends(scale);
+            // A float beyond 64 bits, infinities too, becomes the last number there.
+            (rule(scale, value) as i64).clamp(least, greatest)
+        }
     }
+}
+
+/// The whole number of a value, as it is before it is clamped.
+pub fn right_number(scale: Scale, value: f32) -> f64 {
+    half_up(on_line(line(scale), value))
 }
 
 /// The number on a line, before rounding.

@@ -1,10 +1,10 @@
 //! Every code of every setting.
 
-use crate::layouts::LEGACY;
 use crate::library::{Library, FLOAT};
+use crate::plain::quantization::returned;
 use crate::tally::{Flow, Tally};
 
-use super::{compare_dequantize, settings, words, EMPTY_SLOT};
+use super::{compare_dequantize, scale_of, settings, words, EMPTY_SLOT};
 
 /// Every 16-bit number as a code, those above 2^n - 1 included.
 pub fn every_code(library: &Library, tally: &mut Tally) -> Flow {
@@ -16,17 +16,14 @@ pub fn every_code(library: &Library, tally: &mut Tally) -> Flow {
     Flow::Continue(())
 }
 
-/// Every code made a float must come back as itself, but for the three that the
-/// older full range never makes. This asks the library alone: the reference has no
-/// part in it.
+/// Every code made a float must come back as itself, but for those that its range
+/// never makes, which come back as the nearer end. This asks the library alone: the
+/// reference has no part in it.
 pub fn there_and_back(library: &Library, tally: &mut Tally) -> Flow {
     for setting in settings() {
-        let [_, range, depth, _] = setting;
-        for code in 0..1_u16 << depth {
-            let must_be = match (range, depth, code) {
-                (LEGACY, 12, 4093..) => 4092,
-                _ => code,
-            };
+        let scale = scale_of(setting);
+        for code in 0..1_u16 << scale.depth {
+            let must_be = returned(scale, code);
             let mut slot = EMPTY_SLOT;
             (library.dequantize)(setting, code, &mut slot);
             let bits = slot[FLOAT];

@@ -1,6 +1,7 @@
-//! The paper's marked examples and traps by name, the request's for the older full
-//! range, and the figures that document 000 publishes. The numbers are copied from
-//! there, so the library and the reference are both compared with them.
+//! The paper's marked examples and traps by name, the requests' for the older full
+//! range and for the ends of narrow range, and the figures that document 000
+//! publishes. The numbers are copied from there, so the library and the reference
+//! are both compared with them.
 
 use crate::library::{Library, Setting, FLOAT};
 use crate::tally::{Flow, Tally};
@@ -27,7 +28,7 @@ const fn example(name: &'static str, setting: Setting, value: f32, code: u16) ->
 /// The float just under 1/8, namely 1/8 - 2^-27.
 const UNDER_AN_EIGHTH: f32 = 0.125 - 1.0 / 134_217_728.0;
 
-const MARKED: [Example; 42] = [
+const MARKED: [Example; 50] = [
     example("M1", [1, 1, 8, 0], 1.0, 235),
     example("M2", [2, 1, 8, 1], -0.5, 16),
     example("M3", [2, 1, 8, 1], 0.5, 240),
@@ -112,6 +113,15 @@ const MARKED: [Example; 42] = [
         f32::NEG_INFINITY,
         0,
     ),
+    // The ends of narrow range, beyond which the formulas go on.
+    example("narrow: 1.25 is 289.75, clamped", [1, 1, 8, 0], 1.25, 254),
+    example("narrow: 1.25 is 1159, clamped", [1, 1, 10, 1], 1.25, 1019),
+    example("narrow: 1.25 is 4636, clamped", [2, 1, 12, 0], 1.25, 4079),
+    example("narrow: -0.25 is -38.75, clamped", [2, 1, 8, 0], -0.25, 1),
+    example("narrow: -0.25 is -155, clamped", [1, 1, 10, 2], -0.25, 4),
+    example("narrow: -0.25 is -620, clamped", [1, 1, 12, 0], -0.25, 16),
+    example("narrow: 0.75 is 1184, clamped", [2, 1, 10, 1], 0.75, 1019),
+    example("narrow: -0.75 is -640, clamped", [2, 1, 12, 2], -0.75, 16),
 ];
 
 /// Codes of the older full range and what they are worth, at the three codes above
@@ -133,11 +143,33 @@ const OLDER: [Example; 9] = [
     ),
 ];
 
+/// Narrow codes that are never made and what they are worth.
+const BEYOND: [Example; 8] = [
+    example("narrow 0", [1, 1, 8, 0], -16.0 / 219.0, 0),
+    example("narrow 255", [1, 1, 8, 1], 239.0 / 219.0, 255),
+    example("narrow 3", [2, 1, 10, 0], -61.0 / 876.0, 3),
+    example("narrow 1020", [1, 1, 10, 2], 956.0 / 876.0, 1020),
+    example("narrow 4095", [1, 1, 12, 0], 3839.0 / 3504.0, 4095),
+    example("narrow 0, a difference", [2, 1, 8, 1], -128.0 / 224.0, 0),
+    example(
+        "narrow 1023, a difference",
+        [2, 1, 10, 2],
+        511.0 / 896.0,
+        1023,
+    ),
+    example(
+        "narrow 15, a difference",
+        [2, 1, 12, 1],
+        -2033.0 / 3584.0,
+        15,
+    ),
+];
+
 pub fn marked(library: &Library, tally: &mut Tally) -> Flow {
     for example in &MARKED {
         quantizes(library, tally, example)?;
     }
-    for example in &OLDER {
+    for example in OLDER.iter().chain(&BEYOND) {
         dequantizes(library, tally, example)?;
     }
     // The base is the code of plus zero, at every depth.
@@ -206,6 +238,67 @@ pub fn published(library: &Library, tally: &mut Tally) -> Flow {
         }
     }
     Flow::Continue(())
+}
+
+/// Both ends of narrow range at every depth and for every channel: what is rounded to
+/// them and to their neighbours, and what lies beyond. The other ranges go on to
+/// their own ends.
+pub fn narrow_ends(library: &Library, tally: &mut Tally) -> Flow {
+    for (depth, low, high) in [(8, 1, 254), (10, 4, 1019), (12, 16, 4079)] {
+        for [model, channel] in [[1, 0], [1, 1], [1, 2], [2, 0], [2, 1], [2, 2]] {
+            for (name, number, code) in around_narrow_ends(low, high) {
+                let value = narrow_value(number, depth, model == 2 && channel > 0);
+                let example = example(name, [model, 1, depth, channel], value, code);
+                quantizes(library, tally, &example)?;
+            }
+            let all_codes = [0, (1 << depth) - 1];
+            let older = if depth == 12 { [0, 4092] } else { all_codes };
+            for (range, [bottom, top]) in [(1, [low, high]), (2, all_codes), (3, older)] {
+                let setting = [model, range, depth, channel];
+                for value in [f32::INFINITY, f32::MAX, 2.0] {
+                    quantizes(library, tally, &example("the top", setting, value, top))?;
+                    quantizes(
+                        library,
+                        tally,
+                        &example("the bottom", setting, -value, bottom),
+                    )?;
+                }
+            }
+        }
+    }
+    Flow::Continue(())
+}
+
+/// Numbers that are not rounded yet, and their codes. None is a tie, since ties are
+/// no floats here; the sixteenths tell which side of one they are on.
+fn around_narrow_ends(low: u16, high: u16) -> [(&'static str, f64, u16); 12] {
+    let [bottom, top] = [low, high].map(f64::from);
+    [
+        ("the top less 1", top - 1.0, high - 1),
+        ("over half below the top", top - 9.0 / 16.0, high - 1),
+        ("under half below the top", top - 7.0 / 16.0, high),
+        ("the top", top, high),
+        ("under half above the top", top + 7.0 / 16.0, high),
+        ("over half above the top", top + 9.0 / 16.0, high),
+        ("the bottom and 1", bottom + 1.0, low + 1),
+        ("over half above the bottom", bottom + 9.0 / 16.0, low + 1),
+        ("under half above the bottom", bottom + 7.0 / 16.0, low),
+        ("the bottom", bottom, low),
+        ("under half below the bottom", bottom - 7.0 / 16.0, low),
+        ("over half below the bottom", bottom - 9.0 / 16.0, low),
+    ]
+}
+
+/// The float nearest to what a number of narrow range is worth: near enough, at these
+/// numbers, to be rounded as it would be.
+fn narrow_value(number: f64, depth: u8, difference: bool) -> f32 {
+    let s = f64::from(1_u16 << (depth - 8));
+    let (base, span) = if difference {
+        (128.0, 224.0)
+    } else {
+        (16.0, 219.0)
+    };
+    ((number - base * s) / (span * s)) as f32
 }
 
 fn quantizes(library: &Library, tally: &mut Tally, example: &Example) -> Flow {

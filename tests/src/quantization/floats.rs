@@ -78,21 +78,35 @@ pub fn random(library: &Library, tally: &mut Tally) -> Flow {
     Flow::Continue(())
 }
 
-/// The floats around every rounding tie c + 1/2, for c from -1 to 2^n: the one
-/// nearest the tie and two on each side of it. So the tie itself, if it is a
-/// float, and else the floats on both sides of it, have both neighbours here.
+/// The floats around every rounding tie c + 1/2, for c from -1 to 2^n.
 pub fn around_ties(scale: Scale) -> impl Iterator<Item = u32> {
-    numbers(scale).flat_map(move |c| {
-        // The scale is linear, so the tie's value is halfway between two codes'.
-        let tie = (scale.value(c) + scale.value(c + 1)) * HALF;
-        around(float::nearest(tie), 2)
-    })
+    numbers(scale).flat_map(move |c| around_tie(scale, c))
+}
+
+/// The floats around the tie c + 1/2: the one nearest to it and two on each side. So
+/// the tie itself, if it is a float, and else the floats on both sides of it, have
+/// both neighbours here.
+fn around_tie(scale: Scale, c: i128) -> impl Iterator<Item = u32> {
+    // The scale is linear, so the tie's value is halfway between two codes'.
+    let tie = (scale.value(c) + scale.value(c + 1)) * HALF;
+    around(float::nearest(tie), 2)
 }
 
 /// The float of every code, and of the numbers beside the codes, with its two
 /// neighbours.
 pub fn around_codes(scale: Scale) -> impl Iterator<Item = u32> {
     numbers(scale).flat_map(move |c| around(float::nearest(scale.value(c)), 1))
+}
+
+/// The floats around the numbers where some range ends, here or at 8 bits, around the
+/// ties beside these, and both infinities.
+pub fn around_ends(scale: Scale) -> impl Iterator<Item = u32> {
+    let s = 1 << (scale.depth - 8);
+    let ends = [0, 1, s, 254, 255 * s - 1, 255 * s, (1 << scale.depth) - 1];
+    ends.into_iter()
+        .flat_map(|end| end - 2..=end + 2)
+        .flat_map(move |c| around(float::nearest(scale.value(c)), 1).chain(around_tie(scale, c)))
+        .chain(SIGNS.map(|sign| sign | NOT_FINITE))
 }
 
 /// -1 to 2^n: the codes, and the clamped numbers beside them.

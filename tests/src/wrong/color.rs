@@ -3,10 +3,11 @@
 use reference::quantization::{Kind, Range, Scale};
 
 use crate::color::expected_convert;
-use crate::plain::color::{converted, half_up, made_scales, weights, Pieces, Ratio, ONE, PIECES};
-use crate::plain::quantization::{line, top};
+use crate::plain::color::{converted, half_up, weights, Pieces, Ratio, ONE, PIECES};
+use crate::plain::quantization::line;
 
 use super::converts::converts;
+use super::ends::within_the_ends;
 use super::Wrong;
 
 pub const WRONG: &[Wrong] = PAIRS.as_flattened();
@@ -152,35 +153,23 @@ const PAIRS: &[[Wrong; 2]] = &[
         },
     ),
     converts(
-        "the older full range clamped to 4095",
-        |direction, conversion, codes, out| {
-            let pieces = Pieces {
-                top: |scale| (1 << scale.depth) - 1,
-                ..PIECES
-            };
-            converted(direction, conversion, codes, out, pieces)
-        },
-    ),
-    converts(
-        "full range clamped to 4092",
-        |direction, conversion, codes, out| {
-            let pieces = Pieces {
-                top: |scale| match scale.depth {
-                    12 if scale.range != Range::Narrow => 4092,
-                    _ => top(scale),
-                },
-                ..PIECES
-            };
-            converted(direction, conversion, codes, out, pieces)
-        },
-    ),
-    converts(
         "given codes over 4092 taken for it",
         |direction, conversion, codes, out| {
             let mut given = codes.clone();
             if let [_, 12, 3, _] = conversion {
                 let over = given.output().iter_mut().filter(|code| **code < 4096);
                 over.for_each(|code| *code = (*code).min(4092));
+            }
+            expected_convert(direction, conversion, &mut given, out)
+        },
+    ),
+    converts(
+        "given narrow codes beyond the ends taken for the nearer",
+        |direction, conversion, codes, out| {
+            let [_, depth, range_in, _] = conversion;
+            let mut given = codes.clone();
+            for code in given.output() {
+                *code = within_the_ends(range_in, depth, *code);
             }
             expected_convert(direction, conversion, &mut given, out)
         },
@@ -265,20 +254,6 @@ const PAIRS: &[[Wrong; 2]] = &[
             }
         },
     ),
-    converts(
-        "narrow clamped to its nominal range",
-        |direction, conversion, codes, out| {
-            let count = expected_convert(direction, conversion, codes, out);
-            if count > 0 {
-                let scales = made_scales(direction, conversion);
-                for (code, &scale) in out.output().iter_mut().zip(scales.iter().cycle()) {
-                    let [lower, upper] = nominal(scale);
-                    *code = (*code).clamp(lower, upper);
-                }
-            }
-            count
-        },
-    ),
 ];
 
 /// The step of brightness in the same range and depth.
@@ -297,15 +272,5 @@ fn half_to_even((p, q): Ratio) -> i128 {
         up - 1
     } else {
         up
-    }
-}
-
-/// The ends of a scale's own range.
-fn nominal(scale: Scale) -> [u16; 2] {
-    let s = 1 << (scale.depth - 8);
-    match (scale.range, scale.kind) {
-        (Range::Narrow, Kind::Brightness) => [16 * s, 235 * s],
-        (Range::Narrow, Kind::Difference) => [16 * s, 240 * s],
-        (Range::Full | Range::LegacyFull, _) => [0, (1 << scale.depth) - 1],
     }
 }

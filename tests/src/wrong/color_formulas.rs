@@ -1,10 +1,12 @@
 //! Mistakes in the formulas of one direction.
 
+use reference::quantization::{Kind, Range};
+
 use crate::plain::color::{
     converted, half_up, made_scales, on_line, pointwise, rgb, values, weights, ycbcr, Pieces,
     Ratio, ONE, PIECES,
 };
-use crate::plain::quantization::line;
+use crate::plain::quantization::{all_codes, ends, line};
 
 use super::converts::{to_rgb, to_ycbcr};
 use super::Wrong;
@@ -81,7 +83,7 @@ pub const WRONG: &[Wrong] = &[
     to_ycbcr(
         "Y' rounded to its code before the differences",
         |direction, conversion, codes, out| {
-            pointwise(conversion, codes, out, |point| {
+            pointwise(direction, conversion, codes, out, |point| {
                 let weights = weights(conversion[0]);
                 let values = values(direction, conversion, line, point);
                 let [brightness, difference, _] = made_scales(direction, conversion).map(line);
@@ -110,6 +112,19 @@ pub const WRONG: &[Wrong] = &[
                         2126 => [y, cb, (cr.0 + 2 * kg * g.0, cr.1)],
                         _ => [y, cb, cr],
                     }
+                },
+                ..PIECES
+            };
+            converted(direction, conversion, codes, out, pieces)
+        },
+    ),
+    to_ycbcr(
+        "narrow brightness alone clamped",
+        |direction, conversion, codes, out| {
+            let pieces = Pieces {
+                ends: |scale| match (scale.range, scale.kind) {
+                    (Range::Narrow, Kind::Difference) => all_codes(scale),
+                    _ => ends(scale),
                 },
                 ..PIECES
             };
@@ -162,7 +177,7 @@ pub const WRONG: &[Wrong] = &[
     to_rgb(
         "R' and B' rounded to their codes before G'",
         |direction, conversion, codes, out| {
-            pointwise(conversion, codes, out, |point| {
+            pointwise(direction, conversion, codes, out, |point| {
                 let weights = weights(conversion[0]);
                 let values = values(direction, conversion, line, point);
                 let [brightness, ..] = made_scales(direction, conversion).map(line);

@@ -27,7 +27,7 @@ const PAIRS: &[[Wrong; 2]] = &[
         },
     ),
     converts("by way of floats", |direction, conversion, codes, out| {
-        pointwise(conversion, codes, out, |point| {
+        pointwise(direction, conversion, codes, out, |point| {
             let matrix = matrix(direction, weights(conversion[0]));
             let values =
                 values(direction, conversion, line, point).map(|(p, q)| p as f32 / q as f32);
@@ -87,7 +87,7 @@ fn by_matrix(
     out: &mut Guarded<u16>,
     matrix: [[f64; 3]; 3],
 ) -> i64 {
-    pointwise(conversion, codes, out, |point| {
+    pointwise(direction, conversion, codes, out, |point| {
         let values = values(direction, conversion, line, point).map(|(p, q)| p as f64 / q as f64);
         let made = made_scales(direction, conversion).map(line);
         [0, 1, 2].map(|channel| {

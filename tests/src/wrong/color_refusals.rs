@@ -7,6 +7,7 @@ use crate::lines::answer;
 use crate::quantization::refused;
 
 use super::converts::converts;
+use super::ends::{refusing, within_the_ends};
 use super::Wrong;
 
 pub const WRONG: &[Wrong] = PAIRS.as_flattened();
@@ -254,6 +255,16 @@ const PAIRS: &[[Wrong; 2]] = &[
                 }
             }
             _ => expected_convert(direction, conversion, codes, out),
+        },
+    ),
+    converts(
+        "narrow codes beyond the ends refused",
+        |direction, conversion, codes, out| {
+            let [_, depth, range_in, _] = conversion;
+            let beyond = |&code: &u16| within_the_ends(range_in, depth, code) != code;
+            refusing(codes.elements().iter().any(beyond), out, |out| {
+                expected_convert(direction, conversion, &mut codes.clone(), out)
+            })
         },
     ),
     // The order of refusals.

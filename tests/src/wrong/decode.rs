@@ -11,6 +11,7 @@ use crate::plain::lines::decoded;
 use crate::plain::quantization::line;
 use crate::quantization::refused;
 
+use super::ends::{line_within_the_ends, refusing};
 use super::points::{keeping_from, older_as_full};
 use super::{Wrong, REFERENCE};
 
@@ -96,6 +97,32 @@ pub const WRONG: &[Wrong] = &[
                 }
             }
             count
+        },
+    ),
+    decodes(
+        "narrow codes beyond the ends decoded as the nearer",
+        |layout, packed, out| {
+            expected_decode_line(layout, &line_within_the_ends(layout, packed), out)
+        },
+    ),
+    decodes(
+        "narrow codes beyond the ends refused, decoding",
+        |layout, packed, out| {
+            let beyond = line_within_the_ends(layout, packed) != packed;
+            refusing(beyond, out, |out| expected_decode_line(layout, packed, out))
+        },
+    ),
+    decodes_points(
+        "narrow codes beyond the ends decoded as the nearer, a point",
+        |layout, bytes, out| {
+            expected_decode_point(layout, &line_within_the_ends(layout, bytes), out)
+        },
+    ),
+    decodes_points(
+        "narrow codes beyond the ends refused, decoding a point",
+        |layout, bytes, out| {
+            let beyond = line_within_the_ends(layout, bytes) != bytes;
+            refusing(beyond, out, |out| expected_decode_point(layout, bytes, out))
         },
     ),
     decodes_points(

@@ -5,12 +5,13 @@ use reference::refusal::Refusal;
 
 use crate::guarded::Guarded;
 use crate::layouts::{bytes_a_point, LEGACY, OFFSETS, PRIMARIES, RANGE};
-use crate::library::{Layout, Library, Setting};
+use crate::library::{Layout, Library};
 use crate::lines::{answer, expected_encode_line, expected_encode_point};
 use crate::plain::lines::{encoded, place, store_fields};
-use crate::plain::quantization::{clamped, half_up, line, numbered, on_line};
+use crate::plain::quantization::{line, numbered};
 use crate::quantization::refused;
 
+use super::ends::{infinities_to_all_codes, rounded_after_the_clamp};
 use super::points::{keeping_from, older_as_full};
 use super::{Wrong, REFERENCE};
 
@@ -68,24 +69,20 @@ pub const WRONG: &[Wrong] = &[
         |layout, values, out| expected_encode_line(older_as_full(layout), values, out),
     ),
     encodes(
-        "the older full range clamped to 4095, encoding",
-        |layout, values, out| encoded(layout, values, out, to_greatest),
+        "narrow infinities to the ends of all codes, encoding",
+        |layout, values, out| encoded(layout, values, out, infinities_to_all_codes),
     ),
     encodes_points(
-        "the older full range clamped to 4095, a point",
-        |layout, values, out| encoded(layout, &values, out, to_greatest),
+        "narrow infinities to the ends of all codes, a point",
+        |layout, values, out| encoded(layout, &values, out, infinities_to_all_codes),
     ),
     encodes(
-        "full range clamped to 4092, encoding",
-        |layout, values, out| {
-            encoded(layout, values, out, |setting, value| {
-                match ((REFERENCE.quantize)(setting, value), setting) {
-                    (4093.., [_, 2, 12, _]) => 4092,
-                    (answer, _) => answer,
-                }
-            })
-        },
+        "rounded after the clamp, encoding",
+        |layout, values, out| encoded(layout, values, out, rounded_after_the_clamp),
     ),
+    encodes_points("rounded after the clamp, a point", |layout, values, out| {
+        encoded(layout, &values, out, rounded_after_the_clamp)
+    }),
     encodes(
         "all channels on the scale of channel 0",
         |layout, values, out| {
@@ -264,7 +261,7 @@ pub const WRONG: &[Wrong] = &[
     encodes_points("every point refused", |_, _, _| refused(Refusal::Outside)),
 ];
 
-const fn encodes(
+pub const fn encodes(
     mistake: &'static str,
     encode_line: fn(Layout, &[f32], &mut Guarded<u8>) -> i64,
 ) -> Wrong {
@@ -275,7 +272,7 @@ const fn encodes(
     (mistake, library)
 }
 
-const fn encodes_points(
+pub const fn encodes_points(
     mistake: &'static str,
     encode_point: fn(Layout, [f32; 3], &mut Guarded<u8>) -> i64,
 ) -> Wrong {
@@ -284,12 +281,6 @@ const fn encodes_points(
         ..REFERENCE
     };
     (mistake, library)
-}
-
-/// The code of a value, clamped to 2^n - 1 in every range.
-fn to_greatest(setting: Setting, value: f32) -> i64 {
-    let number = |scale, value| half_up(on_line(line(scale), value));
-    clamped(setting, value, number, |scale| (1 << scale.depth) - 1)
 }
 
 fn bits(values: &[f32]) -> Vec<u32> {

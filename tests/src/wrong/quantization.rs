@@ -5,10 +5,11 @@ use reference::refusal::Refusal;
 
 use crate::library::{Library, Setting, Slot, FLOAT};
 use crate::plain::quantization::{
-    clamped, divided, half_up, line, numbered, on_line, rounded, top,
+    all_codes, clamped, divided, ends, half_up, line, numbered, right_number, rounded,
 };
 use crate::quantization::{expected_dequantize, expected_quantize, refused, scale};
 
+use super::ends::{infinities_to_all_codes, rounded_after_the_clamp, within_the_ends};
 use super::{Wrong, REFERENCE};
 
 pub const WRONG: &[Wrong] = &[
@@ -77,40 +78,44 @@ pub const WRONG: &[Wrong] = &[
     }),
     quantizes("no clamping at the top", |setting, value| {
         match scale(setting) {
-            Ok(scale) if value.is_finite() => half_up(on_line(line(scale), value)).max(0.0) as i64,
+            Ok(scale) if value.is_finite() => {
+                let [least, _] = ends(scale);
+                (right_number(scale, value) as i64).max(least)
+            }
             _ => expected_quantize(setting, value.to_bits()),
         }
-    }),
-    quantizes("the older full range clamped to 4095", |setting, value| {
-        clamped(setting, value, right_number, |scale| (1 << scale.depth) - 1)
-    }),
-    quantizes("every older top three under 2^n - 1", |setting, value| {
-        clamped(setting, value, right_number, |scale| match scale.range {
-            Range::LegacyFull => (1 << scale.depth) - 4,
-            _ => top(scale),
-        })
-    }),
-    quantizes("full range clamped to 4092", |setting, value| {
-        clamped(setting, value, right_number, |scale| match scale.depth {
-            12 if scale.range != Range::Narrow => 4092,
-            _ => top(scale),
-        })
-    }),
-    quantizes("narrow clamped to 4092", |setting, value| {
-        clamped(setting, value, right_number, |scale| match scale.depth {
-            12 if scale.range != Range::Full => 4092,
-            _ => top(scale),
-        })
     }),
     quantizes(
         "older brightness alone clamped to 4092",
         |setting, value| {
-            clamped(setting, value, right_number, |scale| match scale.kind {
-                Kind::Brightness => top(scale),
-                Kind::Difference => (1 << scale.depth) - 1,
+            clamped(setting, value, right_number, |scale| {
+                match (scale.range, scale.kind) {
+                    (Range::LegacyFull, Kind::Difference) => all_codes(scale),
+                    _ => ends(scale),
+                }
             })
         },
     ),
+    quantizes("narrow brightness alone clamped", |setting, value| {
+        clamped(setting, value, right_number, |scale| {
+            match (scale.range, scale.kind) {
+                (Range::Narrow, Kind::Difference) => all_codes(scale),
+                _ => ends(scale),
+            }
+        })
+    }),
+    quantizes(
+        "narrow infinities to the ends of all codes",
+        infinities_to_all_codes,
+    ),
+    quantizes("rounded after the clamp", rounded_after_the_clamp),
+    quantizes("narrow codes beyond the ends kept", |setting, value| {
+        // As if what was decoded always came back.
+        match (setting, value) {
+            ([_, 1, _, _], -0.6..1.2) => clamped(setting, value, right_number, all_codes),
+            _ => expected_quantize(setting, value.to_bits()),
+        }
+    }),
     quantizes(
         "plus infinity to 4095",
         |setting, value| match expected_quantize(setting, value.to_bits()) {
@@ -120,9 +125,8 @@ pub const WRONG: &[Wrong] = &[
     ),
     quantizes("4093 to 4095 kept", |setting, value| {
         // As if what was decoded always came back.
-        let kept = clamped(setting, value, right_number, |scale| (1 << scale.depth) - 1);
-        match value {
-            0.999..1.0 => kept,
+        match (setting, value) {
+            ([_, 3, _, _], 0.999..1.0) => clamped(setting, value, right_number, all_codes),
             _ => expected_quantize(setting, value.to_bits()),
         }
     }),
@@ -130,19 +134,6 @@ pub const WRONG: &[Wrong] = &[
         let code = expected_quantize(setting, value.to_bits());
         let tie = setting == [2, 3, 10, 1] && value == 0.5 / 1024.0;
         code - i64::from(tie)
-    }),
-    quantizes("narrow clamped to its nominal range", |setting, value| {
-        let code = expected_quantize(setting, value.to_bits());
-        match scale(setting) {
-            Ok(scale) if scale.range == Range::Narrow && code >= 0 => {
-                let [lower, upper] = match scale.kind {
-                    Kind::Brightness => [16, 235],
-                    Kind::Difference => [16, 240],
-                };
-                code.clamp(lower << (scale.depth - 8), upper << (scale.depth - 8))
-            }
-            _ => code,
-        }
     }),
     quantizes("large numbers cut to 32 bits", |setting, value| {
         rounded(
@@ -253,6 +244,23 @@ pub const WRONG: &[Wrong] = &[
         }
     }),
     dequantizes(
+        "narrow codes beyond the ends decoded as the nearer",
+        |setting, code, slot| {
+            let [_, range, depth, _] = setting;
+            expected_dequantize(setting, within_the_ends(range, depth, code), slot)
+        },
+    ),
+    dequantizes(
+        "narrow codes beyond the ends refused",
+        |setting, code, slot| {
+            let [_, range, depth, _] = setting;
+            match expected_dequantize(setting, code, &mut slot.clone()) {
+                0.. if within_the_ends(range, depth, code) != code => refused(Refusal::CodeTooHigh),
+                _ => expected_dequantize(setting, code, slot),
+            }
+        },
+    ),
+    dequantizes(
         "the kinds exchanged",
         |setting, code, slot| match expected_dequantize(setting, code, slot) {
             kind @ 0.. => 1 - kind,
@@ -352,7 +360,7 @@ const fn dequantizes(
     (mistake, library)
 }
 
-const fn quantizes(mistake: &'static str, quantize: fn(Setting, f32) -> i64) -> Wrong {
+pub const fn quantizes(mistake: &'static str, quantize: fn(Setting, f32) -> i64) -> Wrong {
     let library = Library {
         quantize,
         ..REFERENCE
@@ -397,11 +405,6 @@ fn older_line_without_half(scale: Scale) -> (i32, i32) {
         Range::LegacyFull => (step, 0),
         _ => (step, base),
     }
-}
-
-/// The whole number of a value, as it is before it is clamped.
-fn right_number(scale: Scale, value: f32) -> f64 {
-    half_up(on_line(line(scale), value))
 }
 
 fn is_full_difference(scale: Scale) -> bool {

@@ -11,6 +11,7 @@ use crate::lines::{answer, expected_unpack_line};
 use crate::plain::lines::{load_fields, place, unpacked};
 use crate::quantization::refused;
 
+use super::ends::{line_within_the_ends, refusing};
 use super::points::{big_endian_place, keeping_from, neighbours_place};
 use super::{Wrong, REFERENCE};
 
@@ -49,6 +50,20 @@ pub const WRONG: &[Wrong] = &[
         }
         count
     }),
+    // Which codes.
+    unpacks(
+        "narrow codes beyond the ends unpacked as the nearer",
+        |layout, packed, out| {
+            expected_unpack_line(layout, &line_within_the_ends(layout, packed), out)
+        },
+    ),
+    unpacks(
+        "narrow codes beyond the ends refused, unpacking",
+        |layout, packed, out| {
+            let beyond = line_within_the_ends(layout, packed) != packed;
+            refusing(beyond, out, |out| expected_unpack_line(layout, packed, out))
+        },
+    ),
     // Counts.
     unpacks(
         "a count of another quotient",

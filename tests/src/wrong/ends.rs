@@ -1,0 +1,192 @@
+//! Mistakes in the ends of codes: in what each entry that makes codes clamps to, and
+//! in what becomes of narrow codes beyond the ends where codes are only read.
+
+use reference::lines;
+use reference::quantization::{Kind, Range, Scale};
+use reference::refusal::Refusal;
+
+use crate::guarded::{Element, Guarded};
+use crate::layouts::bytes_a_point;
+use crate::library::{Layout, Setting};
+use crate::plain::color::{converted, Pieces, PIECES};
+use crate::plain::lines::encoded;
+use crate::plain::quantization::{
+    all_codes, clamped, ends, half_up, line, on_line, returned, right_number,
+};
+use crate::quantization::{refused, scale};
+
+use super::converts::converts;
+use super::encode::{encodes, encodes_points};
+use super::quantization::quantizes;
+use super::{Wrong, REFERENCE};
+
+/// Each of the mistakes, made in quantizing, in encoding a line and a point, and in
+/// each direction of converting.
+macro_rules! mistaken {
+    ($($mistake:literal: $ends:expr,)*) => {
+        pub const QUANTIZING: &[Wrong] = &[$(
+            quantizes($mistake, |setting, value| {
+                clamped(setting, value, right_number, $ends)
+            }),
+        )*];
+
+        pub const ENCODING: &[Wrong] = &[$(
+            encodes(concat!($mistake, ", encoding"), |layout, values, out| {
+                encoded(layout, values, out, |setting, value| {
+                    clamped(setting, value, right_number, $ends)
+                })
+            }),
+            encodes_points(concat!($mistake, ", a point"), |layout, values, out| {
+                encoded(layout, &values, out, |setting, value| {
+                    clamped(setting, value, right_number, $ends)
+                })
+            }),
+        )*];
+
+        pub const CONVERTING: &[Wrong] = [$(
+            converts($mistake, |direction, conversion, codes, out| {
+                let pieces = Pieces { ends: $ends, ..PIECES };
+                converted(direction, conversion, codes, out, pieces)
+            }),
+        )*]
+        .as_flattened();
+    };
+}
+
+mistaken! {
+    // Narrow range.
+    "narrow clamped to all codes": |scale| narrow(scale, all_codes(scale)),
+    "narrow clamped at 8 bits alone": |scale| match scale.depth {
+        8 => ends(scale),
+        _ => narrow(scale, all_codes(scale)),
+    },
+    "narrow clamped to 1 and 254 at every depth": |scale| narrow(scale, [1, 254]),
+    "one code kept at each end at every depth": |scale| {
+        let [bottom, top] = all_codes(scale);
+        narrow(scale, [bottom + 1, top - 1])
+    },
+    "0 for s": |scale| narrow(scale, [0, ends(scale)[1]]),
+    "s - 1 for s": |scale| narrow(scale, [s(scale) - 1, ends(scale)[1]]),
+    "16s for s": |scale| narrow(scale, [16 * s(scale), ends(scale)[1]]),
+    "255s for 255s - 1": |scale| narrow(scale, [s(scale), 255 * s(scale)]),
+    "254s for 255s - 1": |scale| narrow(scale, [s(scale), 254 * s(scale)]),
+    "240s for 255s - 1": |scale| narrow(scale, [s(scale), 240 * s(scale)]),
+    "235s for 255s - 1": |scale| narrow(scale, [s(scale), 235 * s(scale)]),
+    "2^n - 1 for 255s - 1": |scale| narrow(scale, [s(scale), all_codes(scale)[1]]),
+    "narrow clamped to its nominal range": |scale| match scale.kind {
+        Kind::Brightness => narrow(scale, [16 * s(scale), 235 * s(scale)]),
+        Kind::Difference => narrow(scale, [16 * s(scale), 240 * s(scale)]),
+    },
+    "narrow differences alone clamped": |scale| match scale.kind {
+        Kind::Brightness => narrow(scale, all_codes(scale)),
+        Kind::Difference => ends(scale),
+    },
+    "narrow clamped to 4092": |scale| match scale.depth {
+        12 => narrow(scale, [s(scale), 4092]),
+        _ => ends(scale),
+    },
+    // The other ranges.
+    "full range clamped as narrow is": |scale| match scale.range {
+        Range::Full => as_narrow(scale),
+        Range::Narrow | Range::LegacyFull => ends(scale),
+    },
+    "the older full range clamped as narrow is": |scale| older(scale, as_narrow(scale)),
+    "full range clamped to 4092": |scale| match (scale.range, scale.depth) {
+        (Range::Full, 12) => [0, 4092],
+        _ => ends(scale),
+    },
+    "the older full range clamped to 4095": |scale| older(scale, all_codes(scale)),
+    "every older top three under 2^n - 1": |scale| {
+        older(scale, [0, all_codes(scale)[1] - 3])
+    },
+}
+
+/// The given ends in narrow range, the right ones in the others.
+fn narrow(scale: Scale, wrong: [i64; 2]) -> [i64; 2] {
+    match scale.range {
+        Range::Narrow => wrong,
+        Range::Full | Range::LegacyFull => ends(scale),
+    }
+}
+
+/// The given ends in the older full range, the right ones in the others.
+fn older(scale: Scale, wrong: [i64; 2]) -> [i64; 2] {
+    match scale.range {
+        Range::LegacyFull => wrong,
+        Range::Narrow | Range::Full => ends(scale),
+    }
+}
+
+/// The ends of narrow range at the same depth.
+fn as_narrow(scale: Scale) -> [i64; 2] {
+    ends(Scale {
+        range: Range::Narrow,
+        ..scale
+    })
+}
+
+fn s(scale: Scale) -> i64 {
+    1 << (scale.depth - 8)
+}
+
+/// Narrow infinities alone to the ends of all codes.
+pub fn infinities_to_all_codes(setting: Setting, value: f32) -> i64 {
+    match value.is_infinite() {
+        true => clamped(setting, value, right_number, |scale| {
+            narrow(scale, all_codes(scale))
+        }),
+        false => (REFERENCE.quantize)(setting, value),
+    }
+}
+
+/// Clamped half a code beyond both ends and then rounded, which goes up past the top.
+/// To clamp at the ends themselves and then to round would be right: whole numbers are
+/// rounded to themselves.
+pub fn rounded_after_the_clamp(setting: Setting, value: f32) -> i64 {
+    let rule = |scale, value| {
+        let [least, greatest] = ends(scale).map(|end| end as f64);
+        let number = on_line(line(scale), value);
+        half_up(number.clamp(least - 0.5, greatest + 0.5))
+    };
+    clamped(setting, value, rule, |scale| {
+        narrow(scale, all_codes(scale))
+    })
+}
+
+/// A code of a range and a depth, but a narrow one beyond the ends as the nearer end.
+pub fn within_the_ends(range: u8, depth: u8, code: u16) -> u16 {
+    match scale([1, range, depth, 0]) {
+        Ok(scale) if scale.range == Range::Narrow && code >> depth == 0 => returned(scale, code),
+        _ => code,
+    }
+}
+
+/// The packed points, if any code of theirs lies beyond, with all within the ends.
+pub fn line_within_the_ends(layout: Layout, packed: &[u8]) -> Vec<u8> {
+    let mut within = packed.to_vec();
+    let mut codes = vec![0; packed.len() / bytes_a_point(layout).max(1) * 3];
+    if lines::unpack_line(layout, packed, &mut codes).is_ok() {
+        let [_, _, range, depth, ..] = layout;
+        let clamped: Vec<u16> = codes
+            .iter()
+            .map(|&code| within_the_ends(range, depth, code))
+            .collect();
+        if clamped != codes {
+            // The layout and the lengths were good for unpacking.
+            let _ = lines::pack_line(layout, &clamped, &mut within);
+        }
+    }
+    within
+}
+
+/// Makes a call, but refuses by 14 what it would accept where a code lies beyond.
+pub fn refusing<T: Element>(
+    beyond: bool,
+    out: &mut Guarded<T>,
+    call: impl Fn(&mut Guarded<T>) -> i64,
+) -> i64 {
+    match call(&mut out.clone()) {
+        0.. if beyond => refused(Refusal::CodeTooHigh),
+        _ => call(out),
+    }
+}
