@@ -31,8 +31,8 @@ use Rattle.decoding.specs.Decode.{valuesOf, decodeAnswer, decodeOutput}
 use Rattle.decoding.proofs.One.{firstOf, shown, as-line}
 use Rattle.scanline_laws.proofs.Accepted.{fit, unpacking-accepted}
 use Rattle.scanline_laws.proofs.Claims.{packs-what-was-unpacked, unpacks-what-was-packed, unpacks-to-codes, packs-to-bytes, packs-unused-bits-as-zero, encodes-to-codes, counts-empty-lines as empty-lines}
-use Rattle.decoding_laws.specs.Claims.{clampedTo, DecodesLines, LeavesValues, RefusesOtherOutputs, DecodesEachCode, QuantizesWhatWasDecoded, EncodesEachValue, EncodesWhatWasDecoded, ReturnsWithinEnds, EveryCodeWithinEnds, AnyLineComesBack, AnyLineReturns, CountsEmptyLines, DecodesPointAsLine, RefusesPointAsLine}
-use Rattle.decoding_laws.proofs.Values.{clamped-same, number-coded, length-values, codes-back, all-numbers, all-within, as-dequantized, values-of, three}
+use Rattle.decoding_laws.specs.Claims.{clampedTo, DecodesLines, LeavesValues, RefusesOtherOutputs, DecodesEachCode, QuantizesWhatWasDecoded, EncodesEachValue, EncodesWhatWasDecoded, AnyLineComesBack, AnyLineReturns, CountsEmptyLines, DecodesPointAsLine, RefusesPointAsLine}
+use Rattle.decoding_laws.proofs.Values.{number-coded, length-values, codes-back, none-clamped, all-numbers, as-dequantized, values-of, three}
 
 pub decodes-lines : DecodesLines
 decodes-lines l n s p h = unpacking-accepted l n s (3 * n) p (omega arith) h
@@ -79,12 +79,6 @@ encodes-what-was-decoded l n s p =
     let line = encodes-to-codes l n (valuesOf l s) (p .valid) (values-of l n s p) in
     (ap (packedOf l) e, packs-unused-bits-as-zero l n (map (clampedTo l) (codesOf l s)) (subst (CodeLine l n) e line))
 
-pub returns-within-ends : ReturnsWithinEnds
-returns-within-ends l n s p w = ap (packedOf l) (codes-back l s (p .valid) ∙ clamped-same l (codesOf l s) w) ∙ packs-what-was-unpacked l n s p
-
-pub every-code-within-ends : EveryCodeWithinEnds
-every-code-within-ends l n s p = all-within l s (p .valid)
-
 pub any-line-comes-back : AnyLineComesBack
 any-line-comes-back l n s p h floats bytes ef eb =
     let vs = valuesOf l s in
@@ -101,7 +95,7 @@ any-line-comes-back l n s p h floats bytes ef eb =
 pub any-line-returns : AnyLineReturns
 any-line-returns l n s p h x floats bytes ef eb =
     any-line-comes-back l n s p h floats bytes ef eb .2
-    ∙ ap (packedOf l) (clamped-same l (codesOf l s) (all-within l s (p .valid) x))
+    ∙ ap (packedOf l) (none-clamped l s (p .valid) x)
     ∙ packs-what-was-unpacked l n s p
 
 pub counts-empty-lines : CountsEmptyLines

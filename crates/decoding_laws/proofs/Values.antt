@@ -1,19 +1,18 @@
 -- The values of a packed line, one by one. Assumes nothing.
 use mathlib.Core.Path.{_≡_, refl, sym, ap, ap₂, _∙_}
-use mathlib.Core.Bool.{true, false, not, _&&_}
+use mathlib.Core.Bool.{true, false, not}
 use mathlib.Core.List.{List, [], _∷_, map}
 use Prim.Native.Nat.{ℕ, zero, suc, _*_, _/_, _%_, _^_, _≤_, _<_}
 use native.Mathlib.Nat.{mod-lt, mul-comm, mul-div-cancel}
 use native.Mathlib.Omega.{arith}
-use borrow.Author.Tests.{le-ltb, le-leb, leb-true, not-true}
-use lib.Dec.{leb}
+use borrow.Author.Tests.{le-ltb, not-true}
 use lib.Ieee.{Float, nan, inf, fin, isNan}
 use lib.ListN.{length, getD}
 use lib.Pow.{pow-pos}
-use Rattle.lists.specs.Lists.{tabulate, every}
+use Rattle.lists.specs.Lists.{tabulate}
 use Rattle.lists.proofs.Every.{every-of, every-at}
 use Rattle.lists.proofs.Lists.{length-tabulate, getD-tabulate, tabulate-same}
-use Rattle.lists.proofs.Tests.{and3, pass}
+use Rattle.lists.proofs.Tests.{pass}
 use Rattle.fractions.specs.Fraction.{bounded}
 use Rattle.layout.specs.declared.Layout.{Layout}
 use Rattle.layout.specs.Layout.{topOf, rangeOf, kindOf, offsetOf, validLayout}
@@ -26,14 +25,14 @@ use Rattle.quantization.specs.Code.{codeOf, codeOr}
 use Rattle.scales.specs.Channel.{scaleAt}
 use Rattle.quantization.specs.Answer.{named, dequantized, orRefused}
 use Rattle.scales.proofs.Known.{channel-known}
-use Rattle.quantization_laws.specs.Printed.{printedLow, printedHigh, excluded}
+use Rattle.quantization_laws.specs.Printed.{excluded}
 use Rattle.quantization_laws.proofs.Printed.{ends-printed, within-ends}
 use Rattle.quantization_laws.proofs.Return.{code-returns}
 use Rattle.line.specs.Point.{pointOf}
 use Rattle.line.specs.Line.{codeAt, codesOf, PackedLine}
 use Rattle.encoding.specs.Encode.{valueCode, quantizedOf, allNumbers}
 use Rattle.decoding.specs.Decode.{valueAt, valuesOf}
-use Rattle.decoding_laws.specs.Claims.{clampedTo, withinEnds, noneExcluded}
+use Rattle.decoding_laws.specs.Claims.{clampedTo, noneExcluded}
 
 -- what has a code is a number
 has-code : (sc : Scale) (v : Float) (c : ℕ) → codeOf sc v ≡ Code c → not (isNan v) ≡ true
@@ -47,22 +46,6 @@ map-tabulate : (f : ℕ → ℕ) (n : ℕ) (g : ℕ → ℕ) → map f (tabulate
 unfolding tabulate
 map-tabulate f zero g = refl
 map-tabulate f (suc n) g = ap (λ (xs : List ℕ). f (g 0) ∷ xs) (map-tabulate f n (λ k. g (suc k)))
-
--- the ends of a layout's codes
-abbrev lowOf : Layout → ℕ
-lowOf l = printedLow (rangeOf (l .range)) (l .depth)
-
-abbrev highOf : Layout → ℕ
-highOf l = printedHigh (rangeOf (l .range)) (l .depth)
-
--- codes within them are as they were
-pub clamped-same : (l : Layout) (cs : List ℕ) → withinEnds l cs ≡ true → map (clampedTo l) cs ≡ cs
-unfolding every
-clamped-same l [] e = refl
-clamped-same l (c ∷ cs) e =
-    let h = and3 (leb (lowOf l) c) (leb c (highOf l)) (every (λ c. leb (lowOf l) c && leb c (highOf l)) cs) e in
-    let d : clampedTo l c ≡ c = omega (arith, leb-true (lowOf l) c (h .0), leb-true c (highOf l) (h .1)) in
-    ap₂ _∷_ d (clamped-same l cs (h .2))
 
 -- a number has a code, which quantizing answers
 pub number-coded : (sc : Scale) (v : Float) → not (isNan v) ≡ true → orRefused (codeOf sc v) ≡ Answered (codeOr 0 (codeOf sc v))
@@ -107,15 +90,18 @@ module _ (l : Layout) (s : List ℕ) where
     pub all-numbers : allNumbers (valuesOf l s) ≡ true
     all-numbers = every-of (λ v. not (isNan v)) nan (valuesOf l s) (λ k h. has-code (scaleAt l (k % 3)) (getD (valuesOf l s) k nan) (clampedTo l (codeAt l s k)) (code-back k h))
 
-    -- every code that is not left out lies within the ends
-    pub all-within : noneExcluded l (codesOf l s) ≡ true → withinEnds l (codesOf l s) ≡ true
+    -- codes that are not left out are as they were
+    pub none-clamped : noneExcluded l (codesOf l s) ≡ true → map (clampedTo l) (codesOf l s) ≡ codesOf l s
     unfolding codesOf
-    all-within n = every-of (λ c. leb (lowOf l) c && leb c (highOf l)) 0 (codesOf l s) (λ k h.
-        let r = valid-says l ok in
-        let c = getD (codesOf l s) k 0 in
-        let e : c ≡ codeAt l s k = getD-tabulate (3 * (length s / l .bytes)) (codeAt l s) k 0 (omega (arith, length-tabulate (3 * (length s / l .bytes)) (codeAt l s))) in
-        let w = within-ends (l .depth) (r .depth) (rangeOf (l .range)) c (omega (arith, code-le k)) (not-true _ (every-at (λ c. not (excluded (rangeOf (l .range)) (l .depth) c)) 0 (codesOf l s) k n h)) in
-        ap₂ _&&_ (le-leb (lowOf l) c (w .0)) (le-leb c (highOf l) (w .1)))
+    none-clamped none =
+        let m = 3 * (length s / l .bytes) in
+        map-tabulate (clampedTo l) m (codeAt l s)
+        ∙ tabulate-same 0 m (λ k. clampedTo l (codeAt l s k)) (codeAt l s) (λ k h.
+        let r = rangeOf (l .range) in
+        let c = codeAt l s k in
+        let e : getD (codesOf l s) k 0 ≡ c = getD-tabulate m (codeAt l s) k 0 h in
+        let x = not-true (excluded r (l .depth) (getD (codesOf l s) k 0)) (every-at (λ c. not (excluded r (l .depth) c)) 0 (codesOf l s) k none (omega (arith, length-tabulate m (codeAt l s)))) in
+        omega (arith, within-ends (l .depth) (valid-says l ok .depth) r c (code-le k) (ap (excluded r (l .depth)) (sym e) ∙ x)))
 
     pub as-dequantized : (k : ℕ) → k < length (valuesOf l s) → dequantized (l .model) (l .range) (l .depth) (k % 3) (codeAt l s k) ≡ named (kindOf (l .model) (k % 3)) (getD (valuesOf l s) k nan)
     unfolding dequantized

@@ -1,9 +1,9 @@
 -- What is claimed of decoding and encoding, of the definitions that the contracts of `decode_line`, `encode_line` and `decode_point` cite. proofs/Claims.antt proves each. Assumes nothing.
 use Prim.Native.Nat.{ℕ, _*_, _%_, _≤_, _<_}
-use mathlib.Core.Bool.{Bool, true, false, not, _&&_}
+use mathlib.Core.Bool.{Bool, true, false, not}
 use mathlib.Core.Path.{_≡_}
 use mathlib.Core.List.{List, [], map}
-use lib.Dec.{eqb, leb}
+use lib.Dec.{eqb}
 use lib.Ieee.{Float, nan}
 use lib.ListN.{length, getD}
 use Rattle.lists.specs.Lists.{every}
@@ -26,10 +26,6 @@ use Rattle.scanline_laws.specs.Cleared.{cleared}
 -- a code clamped to the ends of its channel, which are those of the layout's range
 abbrev pub clampedTo : Layout → ℕ → ℕ
 clampedTo l c = bounded (printedLow (rangeOf (l .range)) (l .depth)) (printedHigh (rangeOf (l .range)) (l .depth)) c
-
--- no code lies outside them
-abbrev pub withinEnds : Layout → List ℕ → Bool
-withinEnds l codes = every (λ c. leb (printedLow (rangeOf (l .range)) (l .depth)) c && leb c (printedHigh (rangeOf (l .range)) (l .depth))) codes
 
 -- no code is one of those that A1 and A2 leave out of the return
 abbrev pub noneExcluded : Layout → List ℕ → Bool
@@ -65,21 +61,12 @@ EncodesEachValue =
 abbrev pub QuantizesWhatWasDecoded : Type 0
 QuantizesWhatWasDecoded = (l : Layout) (n : ℕ) (s : List ℕ) → PackedLine l n s → quantizedOf l (valuesOf l s) ≡ map (clampedTo l) (codesOf l s)
 
--- and packs them, with zeros in the unused bits;
+-- and packs them, with zeros in the unused bits
 abbrev pub EncodesWhatWasDecoded : Type 0
 EncodesWhatWasDecoded =
     (l : Layout) (n : ℕ) (s : List ℕ) → PackedLine l n s
     → let t = packedOf l (map (clampedTo l) (codesOf l s)) in
     (packedOf l (quantizedOf l (valuesOf l s)) ≡ t) × (cleared l t ≡ t)
-
--- so that where no code lies outside its ends the line returns, its unused bits cleared and nothing else changed,
-abbrev pub ReturnsWithinEnds : Type 0
-ReturnsWithinEnds =
-    (l : Layout) (n : ℕ) (s : List ℕ) → PackedLine l n s → withinEnds l (codesOf l s) ≡ true → packedOf l (quantizedOf l (valuesOf l s)) ≡ cleared l s
-
--- and none does but those that are left out
-abbrev pub EveryCodeWithinEnds : Type 0
-EveryCodeWithinEnds = (l : Layout) (n : ℕ) (s : List ℕ) → PackedLine l n s → noneExcluded l (codesOf l s) ≡ true → withinEnds l (codesOf l s) ≡ true
 
 -- any captured line of up to 4,096 points, decoded into three floats a point and then encoded into as many bytes, is accepted both times with its count of points, and its codes come back, each clamped to its channel's ends, whatever the two outputs held before
 abbrev pub AnyLineComesBack : Type 0

@@ -25,7 +25,7 @@ use Rattle.quantization.specs.Code.{codeOfValue, codeOf}
 use Rattle.scales.specs.Channel.{channelKnownAt, channelScale}
 use Rattle.quantization.specs.Answer.{named, dequantized, orRefused, quantized}
 use Rattle.scales.proofs.Scales.{ends}
-use Rattle.quantization_laws.specs.Claims.{Dequantizes, Quantizes, QuantizesOthers, ZeroIsPlus, Returns, ReturnsWithin, ReturnsEvery, ReturnsExcluded}
+use Rattle.quantization_laws.specs.Claims.{Dequantizes, Quantizes, QuantizesOthers, ZeroIsPlus, Returns, ReturnsEvery, ReturnsExcluded}
 use Rattle.quantization_laws.specs.Printed.{printedValue, printedUnclamped, printedLow, printedHigh}
 use Rattle.quantization_laws.specs.Pattern.{patternValue}
 use Rattle.quantization_laws.proofs.Printed.{value-printed, printed-over, unclamped-printed, ends-printed, within-ends, excluded-end}
@@ -141,14 +141,11 @@ comes-back model range n channel c v e = go (channelKnownAt model range n channe
 pub returns : Returns
 returns model range n channel c v e = comes-back model range n channel c v e .clamped
 
-pub returns-within : ReturnsWithin
-returns-within model range n channel c v e lo hi = returns model range n channel c v e ∙ ap Code (omega arith)
-
 pub returns-every : ReturnsEvery
 returns-every model range n channel c v e x =
     let b = comes-back model range n channel c v e in
     let w = within-ends n (b .known .depth-known) (rangeOf range) c (b .small) x in
-    returns-within model range n channel c v e (w .0) (w .1)
+    b .clamped ∙ ap Code (omega (arith, w))
 
 pub returns-excluded : ReturnsExcluded
 returns-excluded model range n channel c v e x =

@@ -42,19 +42,13 @@ ZeroIsPlus =
     → printedValue (rangeOf range) (kindOf model channel) n c .num ≡ pos 0
     → dequantized model range n channel c ≡ named (kindOf model channel) (fin false 0 (pos 0))
 
--- whatever float dequantizing a code answers, quantizing it answers the code, clamped to the ends
+-- whatever float dequantizing a code answers, quantizing it answers the code, clamped to the ends;
 abbrev pub Returns : Type 0
 Returns =
     (model range n channel c : ℕ) (v : Float) → dequantized model range n channel c ≡ named (kindOf model channel) v
     → quantized model range n channel v ≡ Code (bounded (printedLow (rangeOf range) n) (printedHigh (rangeOf range) n) c)
 
--- which is the code itself where it lies within them,
-abbrev pub ReturnsWithin : Type 0
-ReturnsWithin =
-    (model range n channel c : ℕ) (v : Float) → dequantized model range n channel c ≡ named (kindOf model channel) v
-    → printedLow (rangeOf range) n ≤ c → c ≤ printedHigh (rangeOf range) n → quantized model range n channel v ≡ Code c
-
--- and so every code comes back but those that A1 and A2 leave out,
+-- so every code comes back but those that A1 and A2 leave out,
 abbrev pub ReturnsEvery : Type 0
 ReturnsEvery =
     (model range n channel c : ℕ) (v : Float) → dequantized model range n channel c ≡ named (kindOf model channel) v
