@@ -100,7 +100,7 @@ int64_t imurraqi_unpack_line(const uint8_t layout[8], const uint8_t *packed,
                              size_t len, uint16_t *out, size_t out_len);
 
 /* Packs a line of codes, three a point in channel order; unused bits are zero.
- * Codes are packed as they are: none is clamped, in narrow range neither. Answers
+ * Codes are packed as they are: none is clamped, not even in narrow range. Answers
  * the count of points. Refused: 9, then 13, then 14. */
 int64_t imurraqi_pack_line(const uint8_t layout[8], const uint16_t *codes,
                            size_t len, uint8_t *out, size_t out_len);

@@ -133,7 +133,7 @@ pub fn unpack_line(layout: Layout, packed: &[u8], out: &mut [u16]) -> Result<usi
 }
 
 /// Packs a line of codes, three a point in channel order; unused bits are zero. Codes
-/// are packed as they are: none is clamped, in narrow range neither. Answers the count
+/// are packed as they are: none is clamped, not even in narrow range. Answers the count
 /// of points. Refused: 9, then 13, then 14.
 ///
 /// ```

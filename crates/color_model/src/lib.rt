@@ -27,7 +27,8 @@ fn convert(conversion: Conversion, codes: &[u16], out: &mut [u16]) -> LineAnswer
     LineAnswer::Points(n)
 }
 
-// Converts a line of R', G', B' to Y', Cb, Cr, by the weights of the primaries. Refused: 9, then 13, then 14.
+// Converts a line of R', G', B' to Y', Cb, Cr, by the weights of the primaries. Every code of the depth is taken; those that
+// come out are clamped to the ends of their range. Refused: 9, then 13, then 14.
 pub fn rgb_to_ycbcr(
     primaries: u8,
     depth: u8,

@@ -1,19 +1,23 @@
 -- The claims of specs/Claims.antt. Assumes nothing.
 use mathlib.Core.Path.{_≡_, refl, ap}
 use mathlib.Core.Bool.{Bool, true, not, _&&_}
-use Prim.Native.Nat.{_+_}
+use Prim.Native.Nat.{ℕ, zero, suc, _+_}
 use native.Mathlib.Omega.{arith}
 use borrow.Author.Tests.{leb-true, eqb-true}
 use lib.Dec.{leb, eqb}
 use Rattle.lists.specs.Lists.{every}
 use Rattle.lists.proofs.Tests.{and-left, and-right, and3, pass}
+use Rattle.layout.specs.declared.kind.Kind.the-variants.{Brightness, Difference}
+use Rattle.quantization_laws.specs.Printed.{WithinEnds}
+use Rattle.quantization_laws.proofs.Printed.{value-within}
 use Rattle.color_equations.specs.declared.weights.Weights.{Weights}
 use Rattle.color_equations.specs.Weights.{weightRows, weightsOf, greenOf}
 use Rattle.color_equations.specs.Equations.{lumaOf, chromaOf, primaryOf, greenFrom}
+use Rattle.color_equations.specs.Conversion.{brightness, difference, pick, ycbcrOf, rgbOf}
 use Rattle.color_equations.specs.Line.{conversionAnswer}
 use Rattle.color_equations.proofs.Table.{each-row}
 use Rattle.color_equations.proofs.Whole.{luma-den, chroma-den, primary-den, green-den}
-use Rattle.color_model_laws.specs.Claims.{RowsRight, Inverts, InvertsBack, CountsEmptyLines, MarkedRight, EarlyRight, NarrowEndsRight}
+use Rattle.color_model_laws.specs.Claims.{RowsRight, Inverts, InvertsBack, ConvertsWithinEnds, CountsEmptyLines, MarkedRight, EarlyRight, NarrowEndsRight}
 use Rattle.color_model_laws.specs.Marked.{marked, early, narrowEnds, given, stated}
 use Rattle.color_model_laws.proofs.Inverse.{rgb-back, ycbcr-back}
 
@@ -60,6 +64,24 @@ inverts-back w y cb cr K Y B R =
     let L = luma-den w r g b P (green-den w y r b K Y P Q) Q in
     let e = ycbcr-back w K y cb cr Y B R in
     ((L, e .0), (chroma-den (w .blue) b luma (omega arith) Q L, e .1), (chroma-den (w .red) r luma (omega arith) P L, e .2))
+
+pub converts-within-ends : ConvertsWithinEnds
+unfolding ycbcrOf rgbOf
+converts-within-ends w n from to x y z j d =
+    let red = brightness from n x in
+    let blue = brightness from n z in
+    let luma = lumaOf w red (brightness from n y) blue in
+    let lumaIn = brightness from n x in
+    let redOut = primaryOf (w .red) lumaIn (difference from n z) in
+    let blueOut = primaryOf (w .blue) lumaIn (difference from n y) in (
+      picked j (value-within n d to Brightness luma) (value-within n d to Difference (chromaOf (w .blue) blue luma)) (value-within n d to Difference (chromaOf (w .red) red luma)),
+      picked j (value-within n d to Brightness redOut) (value-within n d to Brightness (greenFrom w lumaIn redOut blueOut)) (value-within n d to Brightness blueOut),
+    )
+  where
+    picked : (j : ℕ) {a b c : ℕ} → WithinEnds to n a → WithinEnds to n b → WithinEnds to n c → WithinEnds to n (pick j a b c)
+    picked zero p q r = p
+    picked (suc zero) p q r = q
+    picked (suc (suc j)) p q r = r
 
 pub counts-empty-lines : CountsEmptyLines
 unfolding every conversionAnswer

@@ -1,14 +1,17 @@
--- Claims about the equations of document 01, "Between R'G'B' and Y'CbCr", as the entries' contracts cite them, about an empty line, about the marked examples and about points of range 3. proofs/Claims.antt proves each. Assumes nothing.
+-- Claims about the equations of document 01, "Between R'G'B' and Y'CbCr", as the entries' contracts cite them, about what comes out of a conversion, about an empty line, and about the marked examples, points of range 3 and points at the narrow ends. proofs/Claims.antt proves each. Assumes nothing.
 use Prim.Native.Nat.{ℕ, _+_, _<_}
 use mathlib.Core.Bool.{true}
 use mathlib.Core.Path.{_≡_}
 use mathlib.Core.List.{[], map}
 use Rattle.fractions.specs.Fraction.{Fraction, Same}
-use Rattle.layout.specs.Layout.{primariesKnown}
+use Rattle.layout.specs.declared.range.Range.{Range}
+use Rattle.layout.specs.Layout.{primariesKnown, depthKnown}
+use Rattle.quantization_laws.specs.Printed.{WithinEnds}
 use Rattle.line.specs.declared.LineAnswer.the-variants.{Points}
 use Rattle.color_equations.specs.declared.weights.Weights.{Weights}
 use Rattle.color_equations.specs.Weights.{weightsOf, greenOf}
 use Rattle.color_equations.specs.Equations.{lumaOf, chromaOf, primaryOf, greenFrom}
+use Rattle.color_equations.specs.Conversion.{ycbcrOf, rgbOf}
 use Rattle.color_equations.specs.Line.{convertible, conversionAnswer}
 use Rattle.color_model_laws.specs.Marked.{marked, early, narrowEnds, given, stated}
 
@@ -45,6 +48,12 @@ InvertsBack =
     let luma = lumaOf w r g b in
     Equals luma y × Equals (chromaOf (w .blue) b luma) cb × Equals (chromaOf (w .red) r luma) cr
 
+-- no code that a conversion makes lies outside the ends of its range
+abbrev pub ConvertsWithinEnds : Type 0
+ConvertsWithinEnds =
+    (w : Weights) (n : ℕ) (from to : Range) (x y z j : ℕ) → depthKnown n ≡ true
+    → WithinEnds to n (ycbcrOf w n from to x y z j) × WithinEnds to n (rgbOf w n from to x y z j)
+
 -- an empty line counts 0
 abbrev pub CountsEmptyLines : Type 0
 CountsEmptyLines = (primaries n from to : ℕ) → convertible primaries n from to ≡ true → conversionAnswer primaries n from to [] 0 ≡ Points 0
@@ -57,6 +66,6 @@ MarkedRight = map given marked ≡ map stated marked
 abbrev pub EarlyRight : Type 0
 EarlyRight = map given early ≡ map stated early
 
--- the narrow ends
+-- the points at the narrow ends
 abbrev pub NarrowEndsRight : Type 0
 NarrowEndsRight = map given narrowEnds ≡ map stated narrowEnds

@@ -20,6 +20,7 @@ use Rattle.quantization.specs.Code.{codeOf, codeOr}
 use Rattle.scales.specs.Channel.{scaleAt}
 use Rattle.quantization.specs.Answer.{quantized}
 use Rattle.scales.proofs.Known.{channel-known}
+use Rattle.quantization_laws.proofs.Claims.{quantizes-within-ends}
 use Rattle.line.specs.declared.LineAnswer.{LineAnswer}
 use Rattle.line.specs.declared.LineAnswer.the-variants.{Points}
 use Rattle.line.specs.Line.{codeAt, codesOf, packedOf, CodeLine}
@@ -31,7 +32,7 @@ use Rattle.decoding.specs.Decode.{valuesOf, decodeAnswer, decodeOutput}
 use Rattle.decoding.proofs.One.{firstOf, shown, as-line}
 use Rattle.scanline_laws.proofs.Accepted.{fit, unpacking-accepted}
 use Rattle.scanline_laws.proofs.Claims.{packs-what-was-unpacked, unpacks-what-was-packed, unpacks-to-codes, packs-to-bytes, packs-unused-bits-as-zero, encodes-to-codes, counts-empty-lines as empty-lines}
-use Rattle.decoding_laws.specs.Claims.{clampedTo, DecodesLines, LeavesValues, RefusesOtherOutputs, DecodesEachCode, QuantizesWhatWasDecoded, EncodesEachValue, EncodesWhatWasDecoded, AnyLineComesBack, AnyLineReturns, CountsEmptyLines, DecodesPointAsLine, RefusesPointAsLine}
+use Rattle.decoding_laws.specs.Claims.{clampedTo, DecodesLines, LeavesValues, RefusesOtherOutputs, DecodesEachCode, QuantizesWhatWasDecoded, EncodesEachValue, EncodesWithinEnds, EncodesWhatWasDecoded, AnyLineComesBack, AnyLineReturns, CountsEmptyLines, DecodesPointAsLine, RefusesPointAsLine}
 use Rattle.decoding_laws.proofs.Values.{number-coded, length-values, codes-back, none-clamped, all-numbers, as-dequantized, values-of, three}
 
 pub decodes-lines : DecodesLines
@@ -69,6 +70,10 @@ encodes-each-value l n vs ok numbers e =
           (number-coded (scaleAt l (k % 3)) v (every-at (λ x. not (isNan x)) nan vs k numbers (omega arith))
           ∙ ap Code (sym own ∙ sym back ∙ at)),
     )
+
+pub encodes-within-ends : EncodesWithinEnds
+encodes-within-ends l n vs ok numbers e k h =
+    quantizes-within-ends (l .model) (l .range) (l .depth) (k % 3) (codeAt l (packedOf l (quantizedOf l vs)) k) (getD vs k nan) (encodes-each-value l n vs ok numbers e .1 k h)
 
 pub quantizes-what-was-decoded : QuantizesWhatWasDecoded
 quantizes-what-was-decoded l n s p = codes-back l s (p .valid)

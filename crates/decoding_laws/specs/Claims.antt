@@ -13,7 +13,7 @@ use Rattle.layout.specs.Layout.{rangeOf, kindOf, validLayout}
 use Rattle.refusal.specs.Refusal.{wrongLineOrOutput}
 use Rattle.quantization.specs.declared.Quantized.the-variants.{Code}
 use Rattle.quantization.specs.Answer.{named, dequantized, quantized}
-use Rattle.quantization_laws.specs.Printed.{printedLow, printedHigh, excluded}
+use Rattle.quantization_laws.specs.Printed.{printedLow, printedHigh, WithinEnds, excluded}
 use Rattle.line.specs.declared.LineAnswer.the-variants.{Points, Refused as LineRefused}
 use Rattle.line.specs.declared.Point.{Point}
 use Rattle.line.specs.Line.{codeAt, codesOf, packedOf, pointValues, PackedLine}
@@ -57,6 +57,12 @@ EncodesEachValue =
     → let s = packedOf l (quantizedOf l vs) in
     PackedLine l n s × ((k : ℕ) → k < 3 * n → quantized (l .model) (l .range) (l .depth) (k % 3) (getD vs k nan) ≡ Code (codeAt l s k))
 
+-- so none of them lies outside the ends
+abbrev pub EncodesWithinEnds : Type 0
+EncodesWithinEnds =
+    (l : Layout) (n : ℕ) (vs : List Float) → validLayout l ≡ true → allNumbers vs ≡ true → length vs ≡ 3 * n
+    → (k : ℕ) → k < 3 * n → WithinEnds (rangeOf (l .range)) (l .depth) (codeAt l (packedOf l (quantizedOf l vs)) k)
+
 -- encoding what was decoded finds the codes again, each clamped to its channel's ends,
 abbrev pub QuantizesWhatWasDecoded : Type 0
 QuantizesWhatWasDecoded = (l : Layout) (n : ℕ) (s : List ℕ) → PackedLine l n s → quantizedOf l (valuesOf l s) ≡ map (clampedTo l) (codesOf l s)
@@ -78,7 +84,7 @@ AnyLineComesBack =
     × (encodeAnswer l decoded (length bytes) ≡ Points n)
     × (encodeOutput l decoded bytes ≡ packedOf l (map (clampedTo l) (codesOf l s)))
 
--- demand 2's last sentence, but for the codes that A1 and A2 leave out of it: such a line returns, its unused bits cleared
+-- demand 2's last sentence, but for the codes that A1 and A2 leave out of it: a line with none of them returns, its unused bits cleared
 abbrev pub AnyLineReturns : Type 0
 AnyLineReturns =
     (l : Layout) (n : ℕ) (s : List ℕ) → PackedLine l n s → n ≤ mostPoints → noneExcluded l (codesOf l s) ≡ true

@@ -16,6 +16,8 @@ use Rattle.layout.specs.declared.kind.Kind.{Kind}
 use Rattle.layout.specs.declared.kind.Kind.the-variants.{Brightness, Difference}
 use Rattle.layout.specs.Layout.{modelKnown, rangeKnown, rangeOf, depthKnown, channelKnown, topOf, kindOf}
 use Rattle.layout.proofs.Depths.{Steps, steps, known-between}
+use Rattle.quantization.specs.declared.code.Coded.{Coded}
+use Rattle.quantization.specs.declared.code.Coded.the-variants.{Code as Found, NotANumber}
 use Rattle.quantization.specs.declared.Dequantized.the-variants.{Refused as NoValue}
 use Rattle.quantization.specs.declared.Quantized.{Quantized}
 use Rattle.quantization.specs.declared.Quantized.the-variants.{Code, Refused as NoCode}
@@ -25,10 +27,10 @@ use Rattle.quantization.specs.Code.{codeOfValue, codeOf}
 use Rattle.scales.specs.Channel.{channelKnownAt, channelScale}
 use Rattle.quantization.specs.Answer.{named, dequantized, orRefused, quantized}
 use Rattle.scales.proofs.Scales.{ends}
-use Rattle.quantization_laws.specs.Claims.{Dequantizes, Quantizes, QuantizesOthers, ZeroIsPlus, Returns, ReturnsEvery, ReturnsExcluded}
-use Rattle.quantization_laws.specs.Printed.{printedValue, printedUnclamped, printedLow, printedHigh}
+use Rattle.quantization_laws.specs.Claims.{Dequantizes, Quantizes, QuantizesOthers, QuantizesWithinEnds, ZeroIsPlus, Returns, ReturnsEvery, ReturnsExcluded}
+use Rattle.quantization_laws.specs.Printed.{printedValue, printedUnclamped, printedLow, printedHigh, WithinEnds}
 use Rattle.quantization_laws.specs.Pattern.{patternValue}
-use Rattle.quantization_laws.proofs.Printed.{value-printed, printed-over, unclamped-printed, ends-printed, within-ends, excluded-end}
+use Rattle.quantization_laws.proofs.Printed.{value-printed, printed-over, unclamped-printed, ends-printed, within-ends, code-within, excluded-end}
 use Rattle.quantization_laws.proofs.Pattern.{pattern-code}
 use Rattle.quantization_laws.proofs.Return.{code-returns}
 use Rattle.quantization_laws.proofs.Nearest.{code-nearest, zero-plus}
@@ -87,6 +89,18 @@ quantizes-others model range n channel e =
     let q = ends (rangeOf range) (kindOf model channel) n in
     let f = ends-printed n (says model range n channel e .depth-known) (rangeOf range) in
     (pass _ (ap not e) (ap Code (q .1 ∙ f .1)), pass _ (ap not e) (ap Code (q .0 ∙ f .0)), pass _ (ap not e) refl)
+
+pub quantizes-within-ends : QuantizesWithinEnds
+unfolding quantized
+quantizes-within-ends model range n channel c v e = go (channelKnownAt model range n channel) refl e
+  where
+    coded : (x : Coded) → orRefused x ≡ Code c → x ≡ Found c
+    coded (Found d) e = cc
+    coded NotANumber e = let z : _≡_ {A = ℕ} 0 1 = cc in absurd (omega arith)
+
+    go : (t : Bool) → channelKnownAt model range n channel ≡ t → cond (not t) (NoCode 9) (orRefused (codeOf (channelScale model range n channel) v)) ≡ Code c → WithinEnds (rangeOf range) n c
+    go false k e = let z : _≡_ {A = ℕ} 0 1 = cc in absurd (omega arith)
+    go true k e = code-within n (says model range n channel k .depth-known) (rangeOf range) (kindOf model channel) v c (coded (codeOf (channelScale model range n channel) v) e)
 
 pub zero-is-plus : ZeroIsPlus
 unfolding dequantized

@@ -6,8 +6,9 @@ use lib.Dec.{eqb, leb, ltb, lit≤}
 use Prim.Native.Nat.{ℕ, _+_, _-_, _*_, _^_, _≤_, _<_}
 use native.Mathlib.Nat.{mul-comm, mul-assoc, zero-mul}
 use native.Mathlib.Omega.{arith}
-use lib.IntN.{ℤ, pos, _+ℤ_, _*ℤ_, +ℤ-idr}
-use Rattle.fractions.specs.Fraction.{Fraction, _over_, Same, _·_, _⊕_, _⊞_, plusHalf, quotient, floor, halfUp, halfAway, bounded}
+use lib.Ieee.{Float, nan, inf, fin}
+use lib.IntN.{ℤ, pos, negsuc, _+ℤ_, _*ℤ_, +ℤ-idr}
+use Rattle.fractions.specs.Fraction.{Fraction, _over_, Same, _·_, _⊕_, _⊞_, plusHalf, quotient, floor, halfUp, halfAway, bounded, clamp}
 use Rattle.fractions.proofs.Integers.{as-difference, same, times, times-right, times-times, times-plus, plus-pos}
 use Rattle.fractions.proofs.Floor.{floor-double}
 use Rattle.lists.proofs.Tests.{and-left, and-right}
@@ -21,8 +22,10 @@ use Rattle.layout.specs.Layout.{depthKnown, depthOf, bitsOf, stepOf, topOf}
 use Rattle.layout.proofs.Depths.{Steps, known-bits}
 use Rattle.scales.specs.Scale.{lowEnd, highEnd, scaleOf}
 use Rattle.scales.specs.Value.{fractionOf}
-use Rattle.quantization.specs.Code.{unclamped}
-use Rattle.quantization_laws.specs.Printed.{half, printedValue, printedUnclamped, printedLow, printedHigh, nearerEnd, excluded}
+use Rattle.scales.proofs.Scales.{ends}
+use Rattle.quantization.specs.declared.code.Coded.the-variants.{Code}
+use Rattle.quantization.specs.Code.{unclamped, codeOfValue, exact, codeOf}
+use Rattle.quantization_laws.specs.Printed.{half, printedValue, printedUnclamped, printedLow, printedHigh, WithinEnds, nearerEnd, excluded}
 
 -- s (a v + b) = (a s) v + b s
 spread : (s a b : ℕ) (v : Fraction) → s · (a · v ⊕ b) ≡ (a * s) · v ⊕ (b * s)
@@ -103,7 +106,7 @@ module _ (n : ℕ) (d : depthKnown n ≡ true) where
   ends-printed LegacyFull = (refl, by-depth (λ n. highEnd LegacyFull n ≡ printedHigh LegacyFull n) refl refl refl)
 
   -- every code that is not left out lies within the ends
-  pub within-ends : (r : Range) (c : ℕ) → c ≤ topOf n → excluded r n c ≡ false → (printedLow r n ≤ c) × (c ≤ printedHigh r n)
+  pub within-ends : (r : Range) (c : ℕ) → c ≤ topOf n → excluded r n c ≡ false → WithinEnds r n c
   within-ends Narrow c h e =
       let s = stepOf n in
       let w = not-false (leb s c && leb c (255 * s - 1)) e in
@@ -138,7 +141,27 @@ module _ (n : ℕ) (d : depthKnown n ≡ true) where
   ordered Full = omega arith
   ordered LegacyFull = omega arith
 
-  -- so that clamped it is the nearer end
+  -- what is clamped to them lies within
+  clamped-within : (r : Range) (z : ℤ) → WithinEnds r n (clamp (printedLow r n) (printedHigh r n) z)
+  clamped-within r (pos m) = omega (arith, ordered r)
+  clamped-within r (negsuc m) = omega (arith, ordered r)
+
+  pub value-within : (r : Range) (k : Kind) (v : Fraction) → WithinEnds r n (codeOfValue (scaleOf r n k) v)
+  unfolding codeOfValue
+  value-within r k v =
+      let sc = scaleOf r n k in
+      let e = ends r k n in
+      let f = ends-printed r in
+      subst (WithinEnds r n) (λ i. clamp (sym (e .0 ∙ f .0) i) (sym (e .1 ∙ f .1) i) (unclamped sc v)) (clamped-within r (unclamped sc v))
+
+  pub code-within : (r : Range) (k : Kind) (v : Float) (c : ℕ) → codeOf (scaleOf r n k) v ≡ Code c → WithinEnds r n c
+  unfolding codeOf
+  code-within r k nan c e = let z : _≡_ {A = ℕ} 0 1 = cc in absurd (omega arith)
+  code-within r k (inf false) c e = let d : scaleOf r n k .high ≡ c = cc in omega (arith, d, ends r k n, ends-printed r, ordered r)
+  code-within r k (inf true) c e = let d : scaleOf r n k .low ≡ c = cc in omega (arith, d, ends r k n, ends-printed r, ordered r)
+  code-within r k (fin s m x) c e = let d : codeOfValue (scaleOf r n k) (exact s m x) ≡ c = cc in subst (WithinEnds r n) d (value-within r k (exact s m x))
+
+  -- so that clamped one that is left out is the nearer end
   pub excluded-end : (r : Range) (c : ℕ) → excluded r n c ≡ true → bounded (printedLow r n) (printedHigh r n) c ≡ nearerEnd r n c
   excluded-end r c e = go (ltb c (printedLow r n)) refl
     where

@@ -10,7 +10,7 @@ use Rattle.refusal.specs.Refusal.{notANumber}
 use Rattle.quantization.specs.declared.Quantized.the-variants.{Code, Refused}
 use Rattle.scales.specs.Channel.{channelKnownAt}
 use Rattle.quantization.specs.Answer.{named, dequantized, quantized}
-use Rattle.quantization_laws.specs.Printed.{printedValue, printedUnclamped, printedLow, printedHigh, nearerEnd, excluded}
+use Rattle.quantization_laws.specs.Printed.{printedValue, printedUnclamped, printedLow, printedHigh, WithinEnds, nearerEnd, excluded}
 use Rattle.quantization_laws.specs.Nearest.{NearestTo}
 use Rattle.quantization_laws.specs.Pattern.{fieldOf, patternValue}
 
@@ -34,6 +34,10 @@ QuantizesOthers =
     → (quantized model range n channel (inf false) ≡ Code (printedHigh (rangeOf range) n))
     × (quantized model range n channel (inf true) ≡ Code (printedLow (rangeOf range) n))
     × (quantized model range n channel nan ≡ Refused notANumber)
+
+-- no code that quantizing answers lies outside the ends
+abbrev pub QuantizesWithinEnds : Type 0
+QuantizesWithinEnds = (model range n channel c : ℕ) (v : Float) → quantized model range n channel v ≡ Code c → WithinEnds (rangeOf range) n c
 
 -- the code of a known channel whose fraction is 0 becomes plus zero
 abbrev pub ZeroIsPlus : Type 0

@@ -1,5 +1,5 @@
 -- The eight lines of document 01, "Codes and floats", the four that request A1 adds, and the ends of the clamp, with A2's, as they are printed: n is the depth, s = 2^(n-8), m = 2^n - 1, c a code, v a value. Assumes nothing.
-use Prim.Native.Nat.{ℕ, _-_, _*_, _^_}
+use Prim.Native.Nat.{ℕ, _-_, _*_, _^_, _≤_}
 use mathlib.Core.Bool.{Bool, false, cond, not, _&&_}
 use lib.Dec.{eqb, leb, ltb}
 use lib.IntN.{ℤ, pos, _-ℤ_}
@@ -44,10 +44,11 @@ printedUnclamped Full Difference n v = let m = topOf n in halfAway (m · v ⊕ 2
 printedUnclamped LegacyFull Brightness n v = floor (plusHalf (2 ^ n · v))
 printedUnclamped LegacyFull Difference n v = floor (plusHalf (2 ^ n · (v ⊞ half)))
 
--- the ends of the clamp: narrow 1 to 254, 4 to 1019, 16 to 4079 (A2); full 0 .. 2^n - 1; in A1's range 0 to 255, 1023 and, at 12 bits, 4092
+-- a number for each depth
 abbrev pub atDepth : (n eight ten twelve : ℕ) → ℕ
 atDepth n eight ten twelve = cond (eqb n 8) eight (cond (eqb n 10) ten twelve)
 
+-- the ends of the clamp: narrow 1 to 254, 4 to 1019, 16 to 4079 (A2); full 0 .. 2^n - 1; in A1's range 0 to 255, 1023 and, at 12 bits, 4092
 abbrev pub printedLow : Range → ℕ → ℕ
 printedLow Narrow n = atDepth n 1 4 16
 printedLow Full n = 0
@@ -57,6 +58,10 @@ abbrev pub printedHigh : Range → ℕ → ℕ
 printedHigh Narrow n = atDepth n 254 1019 4079
 printedHigh Full n = 2 ^ n - 1
 printedHigh LegacyFull n = atDepth n 255 1023 4092
+
+-- a code within them
+abbrev pub WithinEnds : Range → ℕ → ℕ → Type 0
+WithinEnds r n c = (printedLow r n ≤ c) × (c ≤ printedHigh r n)
 
 -- the end that a code outside them is nearer to
 abbrev pub nearerEnd : Range → ℕ → ℕ → ℕ

@@ -34,8 +34,8 @@ pub enum ChannelScale {
     Unknown,
 }
 
-// The ends that a code is clamped to. Narrow codes keep away from the lowest and the highest, which a broadcast desk takes for
-// timing: s .. 255s - 1. Full ones have 0 .. 2^n - 1, and the older full range 4092 at 12 bits.
+// The ends that the code of a value is clamped to. Narrow ones keep away from the lowest and the highest codes, which a broadcast
+// desk takes for timing: s .. 255s - 1. Full ones have 0 .. 2^n - 1, and the older full range 4092 at 12 bits.
 fn low_end(range: Range, depth: Depth) -> u16
     ensures { λ r. ⌜ r ≡ lowEnd range (bitsOf depth) ⌝ }
 {

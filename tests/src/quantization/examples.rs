@@ -1,7 +1,7 @@
 //! The paper's marked examples and traps by name, the requests' for the older full
 //! range and for the ends of narrow range, and the figures that document 000
-//! publishes. The numbers are copied from there, so the library and the reference
-//! are both compared with them.
+//! publishes. The numbers are copied from there or worked out by hand, so the library
+//! and the reference are both compared with them.
 
 use crate::library::{Library, Setting, FLOAT};
 use crate::tally::{Flow, Tally};
@@ -28,7 +28,7 @@ const fn example(name: &'static str, setting: Setting, value: f32, code: u16) ->
 /// The float just under 1/8, namely 1/8 - 2^-27.
 const UNDER_AN_EIGHTH: f32 = 0.125 - 1.0 / 134_217_728.0;
 
-const MARKED: [Example; 50] = [
+const MARKED: [Example; 52] = [
     example("M1", [1, 1, 8, 0], 1.0, 235),
     example("M2", [2, 1, 8, 1], -0.5, 16),
     example("M3", [2, 1, 8, 1], 0.5, 240),
@@ -122,6 +122,19 @@ const MARKED: [Example; 50] = [
     example("narrow: -0.25 is -620, clamped", [1, 1, 12, 0], -0.25, 16),
     example("narrow: 0.75 is 1184, clamped", [2, 1, 10, 1], 0.75, 1019),
     example("narrow: -0.75 is -640, clamped", [2, 1, 12, 2], -0.75, 16),
+    // 145/256 is 507.5 codes of 10 bits: the one tie of a float beside an end.
+    example(
+        "narrow: 145/256 is 1019.5, clamped",
+        [2, 1, 10, 1],
+        145.0 / 256.0,
+        1019,
+    ),
+    example(
+        "narrow: -145/256 is 4.5, rounded up",
+        [2, 1, 10, 2],
+        -145.0 / 256.0,
+        5,
+    ),
 ];
 
 /// Codes of the older full range and what they are worth, at the three codes above
@@ -269,8 +282,9 @@ pub fn narrow_ends(library: &Library, tally: &mut Tally) -> Flow {
     Flow::Continue(())
 }
 
-/// Numbers that are not rounded yet, and their codes. None is a tie, since ties are
-/// no floats here; the sixteenths tell which side of one they are on.
+/// Numbers that are not rounded yet, and their codes. None is a tie: but for the two
+/// among the marked ones, the ties here are no floats. The sixteenths tell which side of
+/// one they are on.
 fn around_narrow_ends(low: u16, high: u16) -> [(&'static str, f64, u16); 12] {
     let [bottom, top] = [low, high].map(f64::from);
     [

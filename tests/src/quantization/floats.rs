@@ -102,8 +102,9 @@ pub fn around_codes(scale: Scale) -> impl Iterator<Item = u32> {
 /// ties beside these, and both infinities.
 pub fn around_ends(scale: Scale) -> impl Iterator<Item = u32> {
     let s = 1 << (scale.depth - 8);
-    let ends = [0, 1, s, 254, 255 * s - 1, 255 * s, (1 << scale.depth) - 1];
-    ends.into_iter()
+    let top = (1 << scale.depth) - 1;
+    [0, 1, s, 254, 255 * s - 1, 255 * s, top - 3, top]
+        .into_iter()
         .flat_map(|end| end - 2..=end + 2)
         .flat_map(move |c| around(float::nearest(scale.value(c)), 1).chain(around_tie(scale, c)))
         .chain(SIGNS.map(|sign| sign | NOT_FINITE))

@@ -1,14 +1,13 @@
 //! Mistakes in the formulas of one direction.
 
-use reference::quantization::{Kind, Range};
-
 use crate::plain::color::{
     converted, half_up, made_scales, on_line, pointwise, rgb, values, weights, ycbcr, Pieces,
     Ratio, ONE, PIECES,
 };
-use crate::plain::quantization::{all_codes, ends, line};
+use crate::plain::quantization::line;
 
 use super::converts::{to_rgb, to_ycbcr};
+use super::ends::brightness_alone;
 use super::Wrong;
 
 pub const WRONG: &[Wrong] = &[
@@ -122,10 +121,7 @@ pub const WRONG: &[Wrong] = &[
         "narrow brightness alone clamped",
         |direction, conversion, codes, out| {
             let pieces = Pieces {
-                ends: |scale| match (scale.range, scale.kind) {
-                    (Range::Narrow, Kind::Difference) => all_codes(scale),
-                    _ => ends(scale),
-                },
+                ends: brightness_alone,
                 ..PIECES
             };
             converted(direction, conversion, codes, out, pieces)

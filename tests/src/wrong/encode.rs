@@ -8,10 +8,10 @@ use crate::layouts::{bytes_a_point, LEGACY, OFFSETS, PRIMARIES, RANGE};
 use crate::library::{Layout, Library};
 use crate::lines::{answer, expected_encode_line, expected_encode_point};
 use crate::plain::lines::{encoded, place, store_fields};
-use crate::plain::quantization::{line, numbered};
+use crate::plain::quantization::{clamped, line, numbered, right_number};
 use crate::quantization::refused;
 
-use super::ends::{infinities_to_all_codes, rounded_after_the_clamp};
+use super::ends::{brightness_alone, infinities_to_all_codes, rounded_after_the_clamp};
 use super::points::{keeping_from, older_as_full};
 use super::{Wrong, REFERENCE};
 
@@ -67,6 +67,22 @@ pub const WRONG: &[Wrong] = &[
     encodes(
         "full range for the older, encoding",
         |layout, values, out| expected_encode_line(older_as_full(layout), values, out),
+    ),
+    encodes(
+        "narrow brightness alone clamped, encoding",
+        |layout, values, out| {
+            encoded(layout, values, out, |setting, value| {
+                clamped(setting, value, right_number, brightness_alone)
+            })
+        },
+    ),
+    encodes_points(
+        "narrow brightness alone clamped, a point",
+        |layout, values, out| {
+            encoded(layout, &values, out, |setting, value| {
+                clamped(setting, value, right_number, brightness_alone)
+            })
+        },
     ),
     encodes(
         "narrow infinities to the ends of all codes, encoding",

@@ -61,18 +61,18 @@ mistaken! {
         _ => narrow(scale, all_codes(scale)),
     },
     "narrow clamped to 1 and 254 at every depth": |scale| narrow(scale, [1, 254]),
-    "one code kept at each end at every depth": |scale| {
+    "narrow: one code kept at each end at every depth": |scale| {
         let [bottom, top] = all_codes(scale);
         narrow(scale, [bottom + 1, top - 1])
     },
-    "0 for s": |scale| narrow(scale, [0, ends(scale)[1]]),
-    "s - 1 for s": |scale| narrow(scale, [s(scale) - 1, ends(scale)[1]]),
-    "16s for s": |scale| narrow(scale, [16 * s(scale), ends(scale)[1]]),
-    "255s for 255s - 1": |scale| narrow(scale, [s(scale), 255 * s(scale)]),
-    "254s for 255s - 1": |scale| narrow(scale, [s(scale), 254 * s(scale)]),
-    "240s for 255s - 1": |scale| narrow(scale, [s(scale), 240 * s(scale)]),
-    "235s for 255s - 1": |scale| narrow(scale, [s(scale), 235 * s(scale)]),
-    "2^n - 1 for 255s - 1": |scale| narrow(scale, [s(scale), all_codes(scale)[1]]),
+    "narrow: 0 for s": |scale| narrow(scale, [0, ends(scale)[1]]),
+    "narrow: s - 1 for s": |scale| narrow(scale, [s(scale) - 1, ends(scale)[1]]),
+    "narrow: 16s for s": |scale| narrow(scale, [16 * s(scale), ends(scale)[1]]),
+    "narrow: 255s for 255s - 1": |scale| narrow(scale, [s(scale), 255 * s(scale)]),
+    "narrow: 254s for 255s - 1": |scale| narrow(scale, [s(scale), 254 * s(scale)]),
+    "narrow: 240s for 255s - 1": |scale| narrow(scale, [s(scale), 240 * s(scale)]),
+    "narrow: 235s for 255s - 1": |scale| narrow(scale, [s(scale), 235 * s(scale)]),
+    "narrow: 2^n - 1 for 255s - 1": |scale| narrow(scale, [s(scale), all_codes(scale)[1]]),
     "narrow clamped to its nominal range": |scale| match scale.kind {
         Kind::Brightness => narrow(scale, [16 * s(scale), 235 * s(scale)]),
         Kind::Difference => narrow(scale, [16 * s(scale), 240 * s(scale)]),
@@ -129,13 +129,23 @@ fn s(scale: Scale) -> i64 {
     1 << (scale.depth - 8)
 }
 
+/// Narrow brightness to its ends, narrow differences to those of all codes. (Made
+/// towards R'G'B', which has no differences, it is no mistake.)
+pub fn brightness_alone(scale: Scale) -> [i64; 2] {
+    match scale.kind {
+        Kind::Brightness => ends(scale),
+        Kind::Difference => narrow(scale, all_codes(scale)),
+    }
+}
+
 /// Narrow infinities alone to the ends of all codes.
 pub fn infinities_to_all_codes(setting: Setting, value: f32) -> i64 {
-    match value.is_infinite() {
-        true => clamped(setting, value, right_number, |scale| {
+    if value.is_infinite() {
+        clamped(setting, value, right_number, |scale| {
             narrow(scale, all_codes(scale))
-        }),
-        false => (REFERENCE.quantize)(setting, value),
+        })
+    } else {
+        (REFERENCE.quantize)(setting, value)
     }
 }
 
@@ -161,19 +171,23 @@ pub fn within_the_ends(range: u8, depth: u8, code: u16) -> u16 {
     }
 }
 
+pub fn codes_within_the_ends(layout: Layout, codes: &[u16]) -> Vec<u16> {
+    let [_, _, range, depth, ..] = layout;
+    codes
+        .iter()
+        .map(|&code| within_the_ends(range, depth, code))
+        .collect()
+}
+
 /// The packed points, if any code of theirs lies beyond, with all within the ends.
 pub fn line_within_the_ends(layout: Layout, packed: &[u8]) -> Vec<u8> {
     let mut within = packed.to_vec();
     let mut codes = vec![0; packed.len() / bytes_a_point(layout).max(1) * 3];
     if lines::unpack_line(layout, packed, &mut codes).is_ok() {
-        let [_, _, range, depth, ..] = layout;
-        let clamped: Vec<u16> = codes
-            .iter()
-            .map(|&code| within_the_ends(range, depth, code))
-            .collect();
-        if clamped != codes {
+        let nearer = codes_within_the_ends(layout, &codes);
+        if nearer != codes {
             // The layout and the lengths were good for unpacking.
-            let _ = lines::pack_line(layout, &clamped, &mut within);
+            let _ = lines::pack_line(layout, &nearer, &mut within);
         }
     }
     within

@@ -10,7 +10,7 @@ use crate::lines::{answer, expected_pack_line};
 use crate::plain::lines::{packed, place, store_fields};
 use crate::quantization::refused;
 
-use super::ends::{refusing, within_the_ends};
+use super::ends::{codes_within_the_ends, refusing};
 use super::points::{big_endian_place, keeping_from, neighbours_place};
 use super::{Wrong, REFERENCE};
 
@@ -48,12 +48,12 @@ pub const WRONG: &[Wrong] = &[
     }),
     // Which codes.
     packs("narrow codes clamped, packing", |layout, codes, out| {
-        expected_pack_line(layout, &line_within_the_ends(layout, codes), out)
+        expected_pack_line(layout, &codes_within_the_ends(layout, codes), out)
     }),
     packs(
         "narrow codes beyond the ends refused, packing",
         |layout, codes, out| {
-            let beyond = line_within_the_ends(layout, codes) != codes;
+            let beyond = codes_within_the_ends(layout, codes) != codes;
             refusing(beyond, out, |out| expected_pack_line(layout, codes, out))
         },
     ),
@@ -152,13 +152,6 @@ pub const WRONG: &[Wrong] = &[
     }),
     packs("everything refused", |_, _, _| refused(Refusal::Outside)),
 ];
-
-fn line_within_the_ends(layout: Layout, codes: &[u16]) -> Vec<u16> {
-    codes
-        .iter()
-        .map(|&code| within_the_ends(layout[RANGE], layout[DEPTH], code))
-        .collect()
-}
 
 const fn packs(
     mistake: &'static str,

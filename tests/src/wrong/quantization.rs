@@ -9,7 +9,7 @@ use crate::plain::quantization::{
 };
 use crate::quantization::{expected_dequantize, expected_quantize, refused, scale};
 
-use super::ends::{infinities_to_all_codes, rounded_after_the_clamp, within_the_ends};
+use super::ends::{brightness_alone, infinities_to_all_codes, rounded_after_the_clamp, within_the_ends};
 use super::{Wrong, REFERENCE};
 
 pub const WRONG: &[Wrong] = &[
@@ -97,12 +97,7 @@ pub const WRONG: &[Wrong] = &[
         },
     ),
     quantizes("narrow brightness alone clamped", |setting, value| {
-        clamped(setting, value, right_number, |scale| {
-            match (scale.range, scale.kind) {
-                (Range::Narrow, Kind::Difference) => all_codes(scale),
-                _ => ends(scale),
-            }
-        })
+        clamped(setting, value, right_number, brightness_alone)
     }),
     quantizes(
         "narrow infinities to the ends of all codes",
