@@ -77,8 +77,9 @@ int64_t imurraqi_quantize(uint8_t model, uint8_t range, uint8_t depth,
 int64_t imurraqi_decode_point(const uint8_t layout[8], const uint8_t *bytes,
                               size_t len, float point[3]);
 
-/* The floats of a line of packed points, three a point in channel order.
- * Answers the count of points. Refused: 9, then 13. */
+/* The floats of a line of packed points, three a point in channel order, each that
+ * of imurraqi_dequantize: every code is taken. Answers the count of points.
+ * Refused: 9, then 13. */
 int64_t imurraqi_decode_line(const uint8_t layout[8], const uint8_t *packed,
                              size_t len, float *out, size_t out_len);
 

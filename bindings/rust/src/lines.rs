@@ -54,8 +54,9 @@ pub fn decode_point(layout: Layout, bytes: &[u8]) -> Result<[f32; 3], Refusal> {
     Ok(point)
 }
 
-/// The floats of a line of packed points, three a point in channel order. Answers
-/// the count of points. Refused: 9, then 13.
+/// The floats of a line of packed points, three a point in channel order, each that of
+/// [`dequantize`](crate::dequantize): every code is taken. Answers the count of points.
+/// Refused: 9, then 13.
 ///
 /// ```
 /// use imurraqi::{decode_line, Layout};

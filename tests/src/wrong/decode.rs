@@ -11,7 +11,7 @@ use crate::plain::lines::decoded;
 use crate::plain::quantization::line;
 use crate::quantization::refused;
 
-use super::ends::{line_within_the_ends, refusing};
+use super::ends::{line_within_the_ends, refusing_points};
 use super::points::{keeping_from, older_as_full};
 use super::{Wrong, REFERENCE};
 
@@ -107,10 +107,7 @@ pub const WRONG: &[Wrong] = &[
     ),
     decodes(
         "narrow codes beyond the ends refused, decoding",
-        |layout, packed, out| {
-            let beyond = line_within_the_ends(layout, packed) != packed;
-            refusing(beyond, out, |out| expected_decode_line(layout, packed, out))
-        },
+        |layout, packed, out| refusing_points(layout, packed, out, expected_decode_line),
     ),
     decodes_points(
         "narrow codes beyond the ends decoded as the nearer, a point",
@@ -120,10 +117,7 @@ pub const WRONG: &[Wrong] = &[
     ),
     decodes_points(
         "narrow codes beyond the ends refused, decoding a point",
-        |layout, bytes, out| {
-            let beyond = line_within_the_ends(layout, bytes) != bytes;
-            refusing(beyond, out, |out| expected_decode_point(layout, bytes, out))
-        },
+        |layout, bytes, out| refusing_points(layout, bytes, out, expected_decode_point),
     ),
     decodes_points(
         "full range for the older, decoding a point",

@@ -193,6 +193,18 @@ pub fn line_within_the_ends(layout: Layout, packed: &[u8]) -> Vec<u8> {
     within
 }
 
+/// Makes a call on packed points, but refuses by 14 what it would accept where one of
+/// their codes lies beyond.
+pub fn refusing_points<T: Element>(
+    layout: Layout,
+    packed: &[u8],
+    out: &mut Guarded<T>,
+    call: fn(Layout, &[u8], &mut Guarded<T>) -> i64,
+) -> i64 {
+    let beyond = line_within_the_ends(layout, packed) != packed;
+    refusing(beyond, out, |out| call(layout, packed, out))
+}
+
 /// Makes a call, but refuses by 14 what it would accept where a code lies beyond.
 pub fn refusing<T: Element>(
     beyond: bool,

@@ -4,7 +4,7 @@ use reference::lines;
 use reference::refusal::Refusal;
 
 use crate::guarded::Guarded;
-use crate::layouts::{bytes_a_point, DEPTH, RANGE};
+use crate::layouts::{bytes_a_point, DEPTH};
 use crate::library::{Layout, Library};
 use crate::lines::{answer, expected_pack_line};
 use crate::plain::lines::{packed, place, store_fields};

@@ -11,7 +11,7 @@ use crate::lines::{answer, expected_unpack_line};
 use crate::plain::lines::{load_fields, place, unpacked};
 use crate::quantization::refused;
 
-use super::ends::{line_within_the_ends, refusing};
+use super::ends::{line_within_the_ends, refusing_points};
 use super::points::{big_endian_place, keeping_from, neighbours_place};
 use super::{Wrong, REFERENCE};
 
@@ -59,10 +59,7 @@ pub const WRONG: &[Wrong] = &[
     ),
     unpacks(
         "narrow codes beyond the ends refused, unpacking",
-        |layout, packed, out| {
-            let beyond = line_within_the_ends(layout, packed) != packed;
-            refusing(beyond, out, |out| expected_unpack_line(layout, packed, out))
-        },
+        |layout, packed, out| refusing_points(layout, packed, out, expected_unpack_line),
     ),
     // Counts.
     unpacks(
