@@ -14,7 +14,7 @@ binding = share/imurraqi/rust
 sources := crates.txt $(shell find crates -name '*.rt' -o -name '*.antt')
 
 # The C interface by subject.
-subjects = c_values c_descriptors c_lines c_colors c_cards c_history
+subjects = c_values c_descriptors c_fields c_lines c_colors c_cards c_history
 
 # In a shell: PREFIX with its whole path, and the directory that is written to.
 places = set -e; prefix=$$(realpath -ms -- '$(PREFIX)'); to='$(DESTDIR)'$$prefix

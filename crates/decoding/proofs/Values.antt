@@ -1,45 +1,58 @@
 -- A line's values filled in point by point. Assumes nothing.
-use mathlib.Core.Path.{_≡_, sym, ap, ap₂, _∙_}
+use mathlib.Core.Path.{_≡_, refl, sym, ap, ap₂, _∙_}
+use mathlib.Core.Bool.{true}
 use mathlib.Core.List.{List}
-use Prim.Native.Nat.{ℕ, _+_, _*_, _/_, _%_, _≤_, _<_}
+use Prim.Native.Nat.{ℕ, zero, suc, _+_, _*_, _/_, _%_, _≤_, _<_}
 use native.Mathlib.Nat.{mul-comm, mul-div-cancel}
 use native.Mathlib.Omega.{arith}
 use lib.Ieee.{Float, nan}
 use lib.ListN.{length}
 use Rattle.lists.specs.Lists.{tabulate}
+use Rattle.lists.specs.Bytes.{areBytes}
 use Rattle.lists.specs.inner.Stores.{written}
 use Rattle.lists.proofs.Filled.{Filled, filled-more, filled-all}
 use Rattle.layout.specs.declared.Layout.{Layout}
-use Rattle.layout.specs.Layout.{offsetOf}
+use Rattle.layout.specs.Layout.{validLayout}
+use Rattle.layout.proofs.Facts.{valid-says}
 use Rattle.scales.specs.declared.scale.Scale.{Scale}
+use Rattle.scales.specs.declared.channels.Scales.{Scales}
 use Rattle.scales.specs.Value.{valueOf}
 use Rattle.scales.specs.Channel.{scaleAt}
-use Rattle.line.specs.Point.{bits, pointOf}
-use Rattle.line.proofs.Points.{code-at}
+use Rattle.scales.specs.inner.Fitted.{Fitted}
+use Rattle.line.specs.Line.{codeAt}
+use Rattle.field.proofs.Line.{code-read, point-reaches}
 use Rattle.decoding.specs.Decode.{valueAt, valuesOf}
-use Rattle.decoding.specs.inner.Field.{fieldValue}
+use Rattle.decoding.specs.inner.Read.{readValue, scaleIn}
 
--- a value that was worked out on channel j's scale
-pub on-scale : (l : Layout) (v j : ℕ) {sc : Scale} {x : Float} → sc ≡ scaleAt l j → x ≡ valueOf sc (bits (l .depth) (offsetOf l j) v) → x ≡ fieldValue l v j
-on-scale l v j e g = g ∙ ap (λ (sc : Scale). valueOf sc (bits (l .depth) (offsetOf l j) v)) e
+-- the layout's scales, channel by channel
+pub fitted-in : (l : Layout) (scales : Scales) (j : ℕ) → Fitted l scales → j < 3 → scaleIn scales j ≡ scaleAt l j
+fitted-in l scales zero f h = f .fitted0
+fitted-in l scales (suc zero) f h = f .fitted1
+fitted-in l scales (suc (suc zero)) f h = f .fitted2
+fitted-in l scales (suc (suc (suc j))) f h = absurd (omega arith)
 
-module _ (l : Layout) (s : List ℕ) where
-  -- value 3 i + j is that of field j of point i
-  value-at : (i j : ℕ) → j < 3 → fieldValue l (pointOf l s i) j ≡ valueAt l s (3 * i + j)
-  unfolding valueAt
-  value-at i j h =
-      let r : j ≡ (3 * i + j) % 3 = omega arith in
-      ap₂ (λ (a c : ℕ). valueOf (scaleAt l a) c) r (code-at l s i j h)
+-- value 3 i + j is that of code 3 i + j
+pub value-of : (l : Layout) (s : List ℕ) (i j : ℕ) {sc : Scale} {c : ℕ} → j < 3 → sc ≡ scaleAt l j → c ≡ codeAt l s (3 * i + j) → valueOf sc c ≡ valueAt l s (3 * i + j)
+unfolding valueAt
+value-of l s i j h e q =
+    let r : j ≡ (3 * i + j) % 3 = omega arith in
+    ap₂ valueOf (e ∙ ap (scaleAt l) r) q
 
-  -- one turn of a loop: point i's number is v
-  pub values-more : (out xs ys : List Float) (i v : ℕ) → 3 * i + 3 ≤ length out → v ≡ pointOf l s i → Filled out (valueAt l s) (3 * i) xs
-      → ys ≡ written xs (3 * i) (fieldValue l v) 3 → Filled out (valueAt l s) (3 * (i + 1)) ys
-  values-more out xs ys i v fits e f g =
-      filled-more (fieldValue l v) 3 (omega arith) (omega arith) (λ j h. ap (λ (p : ℕ). fieldValue l p j) e ∙ value-at i j h) f g
+-- a line of n points
+module _ (l : Layout) (s : List ℕ) (n : ℕ) (ok : validLayout l ≡ true) (whole : length s ≡ l .bytes * n) where
+  -- one turn of a loop
+  pub values-more : (out xs ys : List Float) (i at : ℕ) → areBytes s ≡ true → length out ≡ 3 * n → i < n → at ≡ i * l .bytes → Filled out (valueAt l s) (3 * i) xs
+      → ys ≡ written xs (3 * i) (readValue l s at) 3 → Filled out (valueAt l s) (3 * (i + 1)) ys
+  values-more out xs ys i at are long h e f g =
+      filled-more (readValue l s at) 3 (omega arith) (omega arith) (λ j k. value-of l s i j k refl (code-read l s ok are i j at k e (point-reaches l ok n (length s) whole i at h e))) f g
+
+  -- the line's points are n
+  pub values-whole : tabulate (3 * n) (valueAt l s) ≡ valuesOf l s
+  unfolding valuesOf
+  values-whole =
+      let B : 0 < l .bytes = omega (arith, valid-says l ok .bytes-least) in
+      ap (λ (m : ℕ). tabulate (3 * m) (valueAt l s)) (sym (mul-div-cancel n B) ∙ ap (λ (m : ℕ). m / l .bytes) (mul-comm n (l .bytes) ∙ sym whole))
 
   -- all turns
-  pub values-all : (out xs : List Float) (i n : ℕ) → 0 < l .bytes → length s ≡ l .bytes * n → length out ≡ 3 * n → n ≤ i → i ≤ n → Filled out (valueAt l s) (3 * i) xs → xs ≡ valuesOf l s
-  unfolding valuesOf
-  values-all out xs i n B es eo lo hi f =
-      let e : n ≡ length s / l .bytes = sym (mul-div-cancel n B) ∙ ap (λ (m : ℕ). m / l .bytes) (mul-comm n (l .bytes) ∙ sym es) in
-      filled-all nan (omega arith) f ∙ ap (λ (m : ℕ). tabulate (3 * m) (valueAt l s)) (omega arith)
+  pub values-all : (out xs : List Float) (i : ℕ) → length out ≡ 3 * n → n ≤ i → i ≤ n → Filled out (valueAt l s) (3 * i) xs → xs ≡ valuesOf l s
+  values-all out xs i long lo hi f = filled-all nan (omega arith) f ∙ ap (λ (m : ℕ). tabulate (3 * m) (valueAt l s)) (omega arith) ∙ values-whole

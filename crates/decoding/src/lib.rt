@@ -8,8 +8,6 @@ use line::Point;
 use scales::LayoutScales;
 use scales::Scales;
 
-mod field;
-mod load;
 mod points;
 
 // A point's values, or the refusal's number.

@@ -1,85 +1,103 @@
-// A line's points decoded: a loop for each size of a point, so that none is chosen along the line.
+// A line's points decoded. Every value comes from only the bytes that hold its field.
 ghost use mathlib.Core.Path.{_≡_};
 ghost use mathlib.Core.Bool.{true};
-ghost use Prim.Native.Nat.{_*_};
-ghost use lib.ListN.{length};
+ghost use Prim.Native.Nat.{_+_, _*_, _<_, _≤_};
+ghost use lib.ListN.{length, take, drop};
+ghost use Rattle.lists.specs.inner.Stores.{written};
 ghost use Rattle.layout.specs.Layout.{validLayout};
+ghost use Rattle.scales.specs.Value.{valueOf};
+ghost use Rattle.scales.specs.Channel.{scaleAt};
 ghost use Rattle.scales.specs.inner.Fitted.{Fitted};
-ghost use Rattle.decoding.specs.Decode.{valuesOf};
-use crate::field;
-use crate::load;
+ghost use Rattle.line.specs.inner.Channels.{channelWritten};
+ghost use Rattle.field.specs.inner.Read.{readCode, oneCount};
+ghost use Rattle.decoding.specs.Decode.{valueAt, valuesOf};
+ghost use Rattle.decoding.specs.inner.Read.{readValue, scaleIn};
+use field::Field;
 use layout::Layout;
+use scales::Scale;
 use scales::Scales;
 
-fn points3(layout: Layout, scales: Scales, packed: &[u8], out: &mut [f32], n: usize)
-    requires { ⌜ (validLayout layout ≡ true) × Fitted layout scales × (layout .bytes ≡ 3) ⌝ }
-    requires { ⌜ (length (now packed) ≡ 3 * n) × (length (now out) ≡ 3 * n) ⌝ }
+// The value of a field whose bytes begin at byte `at` of the line.
+fn value_at(scale: Scale, field: Field, packed: &[u8], at: usize, count: usize) -> f32
+    requires { ⌜ at + count ≤ length (now packed) ⌝ }
+    ensures { λ r. ⌜ r ≡ valueOf scale (readCode field (take count (drop at (now (packed .entry))))) ⌝ }
+{
+    scale.value(field.code(&packed[at..at + count]))
+}
+
+// Stores the three values of point i, which begins at byte `at`. All three fields have one count of bytes.
+fn put(layout: Layout, scales: Scales, packed: &[u8], at: usize, out: &mut [f32], i: usize)
+    requires { ⌜ (validLayout layout ≡ true) × (oneCount layout ≡ true) × Fitted layout scales ⌝ }
+    requires { ⌜ (at + layout .bytes ≤ length (now packed)) × (3 * i + 3 ≤ length (now out)) ⌝ }
+    ensures { λ _. ⌜ now (out .exit) ≡ written (now (out .entry)) (3 * i) (λ j. readValue layout (now (packed .entry)) at j) 3 ⌝ }
+{
+    let field0 = Field::of(layout, 0);
+    let field1 = Field::of(layout, 1);
+    let field2 = Field::of(layout, 2);
+    let count = field0.count;
+    out[3 * i] = value_at(scales.channel0, field0, packed, at + field0.first, count);
+    out[3 * i + 1] = value_at(scales.channel1, field1, packed, at + field1.first, count);
+    out[3 * i + 2] = value_at(scales.channel2, field2, packed, at + field2.first, count);
+}
+
+// The values of all points of a line of n, point by point.
+fn points(layout: Layout, scales: Scales, packed: &[u8], out: &mut [f32], n: usize)
+    requires { ⌜ (validLayout layout ≡ true) × (oneCount layout ≡ true) × Fitted layout scales ⌝ }
+    requires { ⌜ (length (now packed) ≡ layout .bytes * n) × (length (now out) ≡ 3 * n) ⌝ }
     ensures { λ _. ⌜ now (out .exit) ≡ valuesOf layout (now (packed .entry)) ⌝ }
 {
+    let mut at = 0;
     let mut i = 0;
     while i < n {
-        field::put32(layout, scales, load::load3(packed, 3 * i), out, i);
+        put(layout, scales, packed, at, out, i);
+        at += line::step(layout);
         i += 1;
     }
 }
 
-fn points4(layout: Layout, scales: Scales, packed: &[u8], out: &mut [f32], n: usize)
-    requires { ⌜ (validLayout layout ≡ true) × Fitted layout scales × (layout .bytes ≡ 4) ⌝ }
-    requires { ⌜ (length (now packed) ≡ 4 * n) × (length (now out) ≡ 3 * n) ⌝ }
-    ensures { λ _. ⌜ now (out .exit) ≡ valuesOf layout (now (packed .entry)) ⌝ }
+// The values of one channel of n points.
+fn channel(layout: Layout, channel: u8, scale: Scale, packed: &[u8], out: &mut [f32], n: usize)
+    requires { ⌜ (validLayout layout ≡ true) × (channel < 3) × (scale ≡ scaleAt layout channel) ⌝ }
+    requires { ⌜ (length (now packed) ≡ layout .bytes * n) × (length (now out) ≡ 3 * n) ⌝ }
+    ensures { λ _. ⌜ now (out .exit) ≡ channelWritten (now (out .entry)) (valueAt layout (now (packed .entry))) channel n ⌝ }
 {
+    let field = Field::of(layout, channel);
+    let count = field.count;
+    let place = channel as usize;
+    let mut at = field.first;
     let mut i = 0;
     while i < n {
-        field::put32(layout, scales, load::load4(packed, 4 * i), out, i);
+        out[3 * i + place] = value_at(scale, field, packed, at, count);
+        at += line::step(layout);
         i += 1;
     }
 }
 
-fn points5(layout: Layout, scales: Scales, packed: &[u8], out: &mut [f32], n: usize)
-    requires { ⌜ (validLayout layout ≡ true) × Fitted layout scales × (layout .bytes ≡ 5) ⌝ }
-    requires { ⌜ (length (now packed) ≡ 5 * n) × (length (now out) ≡ 3 * n) ⌝ }
-    ensures { λ _. ⌜ now (out .exit) ≡ valuesOf layout (now (packed .entry)) ⌝ }
+// The scale of a channel.
+fn scale_of(scales: Scales, channel: u8) -> Scale
+    ensures { λ r. ⌜ r ≡ scaleIn scales channel ⌝ }
 {
-    let mut i = 0;
-    while i < n {
-        field::put64(layout, scales, load::load5(packed, 5 * i), out, i);
-        i += 1;
+    if channel == 0 {
+        scales.channel0
+    } else if channel == 1 {
+        scales.channel1
+    } else {
+        scales.channel2
     }
 }
 
-fn points6(layout: Layout, scales: Scales, packed: &[u8], out: &mut [f32], n: usize)
-    requires { ⌜ (validLayout layout ≡ true) × Fitted layout scales × (layout .bytes ≡ 6) ⌝ }
-    requires { ⌜ (length (now packed) ≡ 6 * n) × (length (now out) ≡ 3 * n) ⌝ }
+// The values of all points of a line of n, channel by channel: where the fields have not one count of bytes, so that a choice by
+// the count can be taken out of the loop. (The calls stand in a loop, and not one after the other, so that the compiler has one
+// place to put the function in. Else it would lay the scales out in memory for every line.)
+fn channels(layout: Layout, scales: Scales, packed: &[u8], out: &mut [f32], n: usize)
+    requires { ⌜ (validLayout layout ≡ true) × Fitted layout scales ⌝ }
+    requires { ⌜ (length (now packed) ≡ layout .bytes * n) × (length (now out) ≡ 3 * n) ⌝ }
     ensures { λ _. ⌜ now (out .exit) ≡ valuesOf layout (now (packed .entry)) ⌝ }
 {
-    let mut i = 0;
-    while i < n {
-        field::put64(layout, scales, load::load6(packed, 6 * i), out, i);
-        i += 1;
-    }
-}
-
-fn points7(layout: Layout, scales: Scales, packed: &[u8], out: &mut [f32], n: usize)
-    requires { ⌜ (validLayout layout ≡ true) × Fitted layout scales × (layout .bytes ≡ 7) ⌝ }
-    requires { ⌜ (length (now packed) ≡ 7 * n) × (length (now out) ≡ 3 * n) ⌝ }
-    ensures { λ _. ⌜ now (out .exit) ≡ valuesOf layout (now (packed .entry)) ⌝ }
-{
-    let mut i = 0;
-    while i < n {
-        field::put64(layout, scales, load::load7(packed, 7 * i), out, i);
-        i += 1;
-    }
-}
-
-fn points8(layout: Layout, scales: Scales, packed: &[u8], out: &mut [f32], n: usize)
-    requires { ⌜ (validLayout layout ≡ true) × Fitted layout scales × (layout .bytes ≡ 8) ⌝ }
-    requires { ⌜ (length (now packed) ≡ 8 * n) × (length (now out) ≡ 3 * n) ⌝ }
-    ensures { λ _. ⌜ now (out .exit) ≡ valuesOf layout (now (packed .entry)) ⌝ }
-{
-    let mut i = 0;
-    while i < n {
-        field::put64(layout, scales, load::load8(packed, 8 * i), out, i);
-        i += 1;
+    let mut k = 0;
+    while k < 3 {
+        channel(layout, k, scale_of(scales, k), packed, out, n);
+        k += 1;
     }
 }
 
@@ -89,18 +107,9 @@ pub(crate) fn all(layout: Layout, scales: Scales, packed: &[u8], out: &mut [f32]
     requires { ⌜ (length (now packed) ≡ layout .bytes * n) × (length (now out) ≡ 3 * n) ⌝ }
     ensures { λ _. ⌜ now (out .exit) ≡ valuesOf layout (now (packed .entry)) ⌝ }
 {
-    let size = layout.bytes;
-    if size == 3 {
-        points3(layout, scales, packed, out, n);
-    } else if size == 4 {
-        points4(layout, scales, packed, out, n);
-    } else if size == 5 {
-        points5(layout, scales, packed, out, n);
-    } else if size == 6 {
-        points6(layout, scales, packed, out, n);
-    } else if size == 7 {
-        points7(layout, scales, packed, out, n);
+    if field::one_count(layout) {
+        points(layout, scales, packed, out, n);
     } else {
-        points8(layout, scales, packed, out, n);
+        channels(layout, scales, packed, out, n);
     }
 }

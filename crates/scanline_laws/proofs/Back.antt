@@ -13,7 +13,7 @@ use lib.Pow.{pow-mono, shl-lt}
 use lib.Seq.{getD-take, getD-drop, ext-getD}
 use Rattle.lists.specs.Lists.{tabulate}
 use Rattle.lists.specs.Bytes.{areBytes, little, bytesOf}
-use Rattle.lists.proofs.Bytes.{little-bytesOf, getD-bytesOf, length-bytesOf}
+use Rattle.lists.proofs.Bytes.{pow-256, little-bytesOf, getD-bytesOf, length-bytesOf}
 use Rattle.lists.proofs.Every.{every-of}
 use Rattle.lists.proofs.Lists.{length-tabulate, getD-tabulate, is-tabulate}
 use Rattle.layout.specs.declared.Layout.{Layout}
@@ -23,7 +23,7 @@ use Rattle.line.specs.Point.{bits, pointOf, inPlace}
 use Rattle.line.specs.Line.{joined, codeAt, codesOf, byteAt, packedOf, CodeLine}
 use Rattle.line.proofs.Joins.{or-sum}
 use Rattle.line.proofs.Points.{code-lt, byte-at, point-inside}
-use Rattle.scanline_laws.proofs.Bits.{pow-256, own, other, turned, bits-or3}
+use Rattle.scanline_laws.proofs.Bits.{own, other, turned, bits-or3}
 use Rattle.scanline_laws.proofs.Cleared.{part-length}
 
 -- three codes in their places: each field holds its code, and the number has no more bits than the point

@@ -3,23 +3,17 @@ use mathlib.Core.Path.{_≡_, refl, sym, ap, ap₂, _∙_}
 use mathlib.Core.Bool.{true, or-comm}
 use mathlib.Core.Logic.{inl, inr}
 use Prim.Native.Nat.{ℕ, zero, suc, _+_, _-_, _*_, _/_, _%_, _^_, _≤_, _<_}
-use native.Mathlib.Nat.{pow-suc, mod-eq-of-lt, div-eq-of-lt, mul-assoc, mul-mod-left, zero-mod, lt-of-lt-of-le}
+use native.Mathlib.Nat.{mod-eq-of-lt, div-eq-of-lt, mul-assoc, mul-mod-left, zero-mod, lt-of-lt-of-le}
 use native.Mathlib.Omega.{arith}
 use borrow.Author.Tests.{leb-true}
 use lib.Bits.{bitAnd, bitOr, and-high, and-shr, and-mod, or-shr, or-mod}
 use lib.Dec.{leb}
 use lib.Pow.{pow-add, pow-mono, high-ones, shl-lt, shl-shr}
 use Rattle.lists.specs.Bytes.{byteOf}
+use Rattle.lists.proofs.Bytes.{pow-256}
 use Rattle.lists.proofs.Tests.{or-cases}
 use Rattle.layout.specs.Layout.{apart}
 use Rattle.line.specs.Point.{bits}
-
--- 256 ^ j is 2 ^ (8 j)
-pub pow-256 : (j : ℕ) → 256 ^ j ≡ 2 ^ (8 * j)
-pow-256 zero = refl
-pow-256 (suc j) =
-    let e : 8 * suc j ≡ 8 * j + 8 = omega arith in
-    pow-suc 256 j ∙ ap (λ (m : ℕ). m * 256) (pow-256 j) ∙ sym (ap (λ (m : ℕ). 2 ^ m) e ∙ pow-add 2 (8 * j) 8)
 
 -- a byte of an `&` is the `&` of the bytes
 pub byte-and : (v m j : ℕ) → byteOf (bitAnd v m) j ≡ bitAnd (byteOf v j) (byteOf m j)

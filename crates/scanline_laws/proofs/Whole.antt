@@ -13,6 +13,7 @@ use lib.Dec.{leb, ltb}
 use lib.ListN.{length, getD}
 use lib.Pow.{pow-pos, pow-add, pow-mono, high-ones}
 use Rattle.lists.specs.Bytes.{byteOf}
+use Rattle.lists.proofs.Bytes.{pow-256}
 use Rattle.lists.proofs.Every.{every-at}
 use Rattle.lists.proofs.Lists.{is-tabulate}
 use Rattle.lists.proofs.Tests.{or-cases}
@@ -21,7 +22,6 @@ use Rattle.layout.specs.Layout.{validLayout, apart}
 use Rattle.layout.proofs.Facts.{Valid, valid-says}
 use Rattle.line.specs.Line.{PackedLine}
 use Rattle.scanline_laws.specs.Cleared.{usedBits, cleared}
-use Rattle.scanline_laws.proofs.Bits.{pow-256}
 use Rattle.scanline_laws.proofs.Cleared.{bytes-pos}
 
 -- m ones at offset o, and the one below them that carries to o + m

@@ -5,8 +5,6 @@ ghost use Rattle.line.specs.Answer.{unpackAnswer, unpackOutput};
 use layout::Layout;
 use line::LineAnswer;
 
-mod field;
-mod load;
 mod points;
 
 // Unpacks a line of points to codes. Refused: 9, then 13.

@@ -1,83 +1,83 @@
-// A line's points unpacked: a loop for each size of a point, so that none is chosen along the line.
+// A line's points unpacked. Every code comes from only the bytes that hold its field.
 ghost use mathlib.Core.Path.{_≡_};
 ghost use mathlib.Core.Bool.{true};
-ghost use Prim.Native.Nat.{_*_};
-ghost use lib.ListN.{length};
+ghost use Prim.Native.Nat.{_+_, _*_, _<_, _≤_};
+ghost use lib.ListN.{length, take, drop};
+ghost use Rattle.lists.specs.inner.Stores.{written};
 ghost use Rattle.layout.specs.Layout.{validLayout};
-ghost use Rattle.line.specs.Line.{codesOf};
-use crate::field;
-use crate::load;
+ghost use Rattle.line.specs.Line.{codeAt, codesOf};
+ghost use Rattle.line.specs.inner.Channels.{channelWritten};
+ghost use Rattle.field.specs.inner.Read.{readCode, readAt, oneCount};
+use field::Field;
 use layout::Layout;
 
-fn points3(layout: Layout, packed: &[u8], codes: &mut [u16], n: usize)
-    requires { ⌜ (validLayout layout ≡ true) × (layout .bytes ≡ 3) ⌝ }
-    requires { ⌜ (length (now packed) ≡ 3 * n) × (length (now codes) ≡ 3 * n) ⌝ }
+// The code of a field whose bytes begin at byte `at` of the line.
+fn code_at(field: Field, packed: &[u8], at: usize, count: usize) -> u16
+    requires { ⌜ at + count ≤ length (now packed) ⌝ }
+    ensures { λ r. ⌜ r ≡ readCode field (take count (drop at (now (packed .entry)))) ⌝ }
+{
+    field.code(&packed[at..at + count])
+}
+
+// Stores the three codes of point i, which begins at byte `at`. All three fields have one count of bytes.
+fn put(layout: Layout, packed: &[u8], at: usize, codes: &mut [u16], i: usize)
+    requires { ⌜ (validLayout layout ≡ true) × (oneCount layout ≡ true) ⌝ }
+    requires { ⌜ (at + layout .bytes ≤ length (now packed)) × (3 * i + 3 ≤ length (now codes)) ⌝ }
+    ensures { λ _. ⌜ now (codes .exit) ≡ written (now (codes .entry)) (3 * i) (λ j. readAt layout (now (packed .entry)) at j) 3 ⌝ }
+{
+    let field0 = Field::of(layout, 0);
+    let field1 = Field::of(layout, 1);
+    let field2 = Field::of(layout, 2);
+    let count = field0.count;
+    codes[3 * i] = code_at(field0, packed, at + field0.first, count);
+    codes[3 * i + 1] = code_at(field1, packed, at + field1.first, count);
+    codes[3 * i + 2] = code_at(field2, packed, at + field2.first, count);
+}
+
+// The codes of all points of a line of n, point by point.
+fn points(layout: Layout, packed: &[u8], codes: &mut [u16], n: usize)
+    requires { ⌜ (validLayout layout ≡ true) × (oneCount layout ≡ true) ⌝ }
+    requires { ⌜ (length (now packed) ≡ layout .bytes * n) × (length (now codes) ≡ 3 * n) ⌝ }
     ensures { λ _. ⌜ now (codes .exit) ≡ codesOf layout (now (packed .entry)) ⌝ }
 {
+    let mut at = 0;
     let mut i = 0;
     while i < n {
-        field::put32(layout, load::load3(packed, 3 * i), codes, i);
+        put(layout, packed, at, codes, i);
+        at += line::step(layout);
         i += 1;
     }
 }
 
-fn points4(layout: Layout, packed: &[u8], codes: &mut [u16], n: usize)
-    requires { ⌜ (validLayout layout ≡ true) × (layout .bytes ≡ 4) ⌝ }
-    requires { ⌜ (length (now packed) ≡ 4 * n) × (length (now codes) ≡ 3 * n) ⌝ }
-    ensures { λ _. ⌜ now (codes .exit) ≡ codesOf layout (now (packed .entry)) ⌝ }
+// The codes of one channel of n points.
+fn channel(layout: Layout, channel: u8, packed: &[u8], codes: &mut [u16], n: usize)
+    requires { ⌜ (validLayout layout ≡ true) × (channel < 3) ⌝ }
+    requires { ⌜ (length (now packed) ≡ layout .bytes * n) × (length (now codes) ≡ 3 * n) ⌝ }
+    ensures { λ _. ⌜ now (codes .exit) ≡ channelWritten (now (codes .entry)) (codeAt layout (now (packed .entry))) channel n ⌝ }
 {
+    let field = Field::of(layout, channel);
+    let count = field.count;
+    let place = channel as usize;
+    let mut at = field.first;
     let mut i = 0;
     while i < n {
-        field::put32(layout, load::load4(packed, 4 * i), codes, i);
+        codes[3 * i + place] = code_at(field, packed, at, count);
+        at += line::step(layout);
         i += 1;
     }
 }
 
-fn points5(layout: Layout, packed: &[u8], codes: &mut [u16], n: usize)
-    requires { ⌜ (validLayout layout ≡ true) × (layout .bytes ≡ 5) ⌝ }
-    requires { ⌜ (length (now packed) ≡ 5 * n) × (length (now codes) ≡ 3 * n) ⌝ }
+// The codes of all points of a line of n, channel by channel: where the fields have not one count of bytes, so that a choice by
+// the count can be taken out of the loop.
+fn channels(layout: Layout, packed: &[u8], codes: &mut [u16], n: usize)
+    requires { ⌜ validLayout layout ≡ true ⌝ }
+    requires { ⌜ (length (now packed) ≡ layout .bytes * n) × (length (now codes) ≡ 3 * n) ⌝ }
     ensures { λ _. ⌜ now (codes .exit) ≡ codesOf layout (now (packed .entry)) ⌝ }
 {
-    let mut i = 0;
-    while i < n {
-        field::put64(layout, load::load5(packed, 5 * i), codes, i);
-        i += 1;
-    }
-}
-
-fn points6(layout: Layout, packed: &[u8], codes: &mut [u16], n: usize)
-    requires { ⌜ (validLayout layout ≡ true) × (layout .bytes ≡ 6) ⌝ }
-    requires { ⌜ (length (now packed) ≡ 6 * n) × (length (now codes) ≡ 3 * n) ⌝ }
-    ensures { λ _. ⌜ now (codes .exit) ≡ codesOf layout (now (packed .entry)) ⌝ }
-{
-    let mut i = 0;
-    while i < n {
-        field::put64(layout, load::load6(packed, 6 * i), codes, i);
-        i += 1;
-    }
-}
-
-fn points7(layout: Layout, packed: &[u8], codes: &mut [u16], n: usize)
-    requires { ⌜ (validLayout layout ≡ true) × (layout .bytes ≡ 7) ⌝ }
-    requires { ⌜ (length (now packed) ≡ 7 * n) × (length (now codes) ≡ 3 * n) ⌝ }
-    ensures { λ _. ⌜ now (codes .exit) ≡ codesOf layout (now (packed .entry)) ⌝ }
-{
-    let mut i = 0;
-    while i < n {
-        field::put64(layout, load::load7(packed, 7 * i), codes, i);
-        i += 1;
-    }
-}
-
-fn points8(layout: Layout, packed: &[u8], codes: &mut [u16], n: usize)
-    requires { ⌜ (validLayout layout ≡ true) × (layout .bytes ≡ 8) ⌝ }
-    requires { ⌜ (length (now packed) ≡ 8 * n) × (length (now codes) ≡ 3 * n) ⌝ }
-    ensures { λ _. ⌜ now (codes .exit) ≡ codesOf layout (now (packed .entry)) ⌝ }
-{
-    let mut i = 0;
-    while i < n {
-        field::put64(layout, load::load8(packed, 8 * i), codes, i);
-        i += 1;
+    let mut k = 0;
+    while k < 3 {
+        channel(layout, k, packed, codes, n);
+        k += 1;
     }
 }
 
@@ -87,18 +87,9 @@ pub(crate) fn all(layout: Layout, packed: &[u8], codes: &mut [u16], n: usize)
     requires { ⌜ (length (now packed) ≡ layout .bytes * n) × (length (now codes) ≡ 3 * n) ⌝ }
     ensures { λ _. ⌜ now (codes .exit) ≡ codesOf layout (now (packed .entry)) ⌝ }
 {
-    let size = layout.bytes;
-    if size == 3 {
-        points3(layout, packed, codes, n);
-    } else if size == 4 {
-        points4(layout, packed, codes, n);
-    } else if size == 5 {
-        points5(layout, packed, codes, n);
-    } else if size == 6 {
-        points6(layout, packed, codes, n);
-    } else if size == 7 {
-        points7(layout, packed, codes, n);
+    if field::one_count(layout) {
+        points(layout, packed, codes, n);
     } else {
-        points8(layout, packed, codes, n);
+        channels(layout, packed, codes, n);
     }
 }

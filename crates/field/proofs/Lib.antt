@@ -1,0 +1,5 @@
+mod Bits
+pub mod Facts
+pub mod Read
+pub mod Line
+pub mod Claims

@@ -1,0 +1,4 @@
+pub mod Field
+pub mod Answer
+pub mod Claims
+pub mod inner
