@@ -34,8 +34,8 @@
  *   10  unknown access in a card, written at 2 or later and not later than the
  *       edition asked                  11  the edition lacks the layout or access
  *   12  not-a-number
- *   13  a line not of whole points or of over 4,096, or an output not exactly
- *       as long as needed
+ *   13  a line not of whole points or of over 4,096, not exactly the bytes of a
+ *       field, or an output not exactly as long as needed
  *   14  a code too high for its depth  15  no such item */
 #ifndef IMURRAQI_H
 #define IMURRAQI_H
@@ -94,6 +94,18 @@ int64_t imurraqi_encode_point(const uint8_t layout[8], float channel0,
  * Refused: 9, then 13, then 12. */
 int64_t imurraqi_encode_line(const uint8_t layout[8], const float *values,
                              size_t len, uint8_t *out, size_t out_len);
+
+/* How many bytes of a point hold the field of a channel: one to three, side by
+ * side. Refused: 9.
+ * first: the place of the first of them in the point, from 0. */
+int64_t imurraqi_field_bytes(const uint8_t layout[8], uint8_t channel,
+                             uint8_t *first);
+
+/* The code of a channel, from only the bytes that hold its field, as
+ * imurraqi_field_bytes tells them. Bits in them that are not the field's are not
+ * looked at. Refused: 9, then 13 for any other number of bytes. */
+int64_t imurraqi_field_code(const uint8_t layout[8], uint8_t channel,
+                            const uint8_t *bytes, size_t len);
 
 /* The codes of a line of packed points, three a point in channel order.
  * Answers the count of points. Refused: 9, then 13. */

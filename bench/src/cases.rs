@@ -5,6 +5,7 @@ use crate::case::{Case, Label};
 mod cards;
 mod colors;
 mod descriptors;
+mod fields;
 mod history;
 mod lines;
 mod values;
@@ -17,6 +18,7 @@ pub fn all() -> Result<Vec<Case>, String> {
     let subjects = [
         descriptors::cases()?,
         values::cases()?,
+        fields::cases()?,
         lines::cases()?,
         colors::cases()?,
         cards::cases()?,

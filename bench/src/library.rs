@@ -2,6 +2,7 @@
 
 pub mod cards;
 pub mod descriptors;
+pub mod fields;
 pub mod history;
 pub mod lines;
 pub mod values;

@@ -4,6 +4,7 @@
 pub mod cards;
 pub mod colors;
 pub mod descriptors;
+pub mod fields;
 pub mod history;
 pub mod layout;
 pub mod lines;

@@ -1,7 +1,7 @@
 /* Finds an item in a stack of cards, shows its facts, writes and reads the
- * descriptor of its layout, turns a line of its points into colors, and sends codes
- * to the ends of its range. Then turns a line of an early capture into colors, and
- * writes its card.
+ * descriptor of its layout, turns a line of its points into colors, reads one channel
+ * of it alone, and sends codes to the ends of its range. Then turns a line of an early
+ * capture into colors, and writes its card.
  * Usage: example STACK */
 #include <imurraqi.h>
 
@@ -12,6 +12,7 @@
 enum { CARD = 32, STACK = 1024 * CARD, DESCRIPTOR = 76 };
 enum { PRIMARIES = 1, RANGE = 2, DEPTH = 3, BYTES = 4 }; /* of a layout */
 enum { FULL = 2, LEGACY_FULL = 3 };                      /* ranges */
+enum { CR = 2 };                                         /* a channel */
 enum { COMMUNITY = 1 };                                  /* an access */
 enum { POINTS = 4, CODES = 3 * POINTS, EARLY_CODES = 6 };
 
@@ -76,6 +77,22 @@ static void show_line(const uint8_t *descriptor, size_t len)
     show_points(codes, values, colors, CODES);
 }
 
+/* The Cr of each point, without the other channels: only the bytes that hold its
+ * field are read. */
+static void show_fields(const uint8_t layout[8])
+{
+    uint8_t first;
+    int64_t count = good(imurraqi_field_bytes(layout, CR, &first));
+    printf("Cr alone, %d bytes from byte %d of each point:", (int)count, first);
+    for (int i = 0; i < POINTS; i++) {
+        const uint8_t *point = packed + i * layout[BYTES];
+        int64_t code =
+            good(imurraqi_field_code(layout, CR, point + first, (size_t)count));
+        printf(" %d", (int)code);
+    }
+    printf("\n");
+}
+
 /* Codes beyond the ends of narrow range, which video keeps for timing. They are
  * packed and decoded as they are, but encoding makes the nearer end of them. */
 static void show_ends(const uint8_t layout[8])
@@ -138,6 +155,7 @@ int main(int argc, char **argv)
     show_item(stack, len, 203002, layout);
     good(imurraqi_descriptor_write(layout, descriptor, sizeof descriptor));
     show_line(descriptor, sizeof descriptor);
+    show_fields(layout);
     show_ends(layout);
     /* A refusal is an answer too. 15: no card of the stack has the item. */
     printf("item 7: %d\n", (int)imurraqi_stack_find(stack, len, 2, 7));

@@ -1,7 +1,7 @@
 //! Finds an item in a stack of cards, shows its facts, writes and reads the
-//! descriptor of its layout, turns a line of its points into colors, and sends codes
-//! to the ends of its range. Then turns a line of an early capture into colors, and
-//! writes its card.
+//! descriptor of its layout, turns a line of its points into colors, reads one channel
+//! of it alone, and sends codes to the ends of its range. Then turns a line of an early
+//! capture into colors, and writes its card.
 //! Usage: example STACK
 
 use imurraqi::{access, model, primaries, range};
@@ -10,6 +10,7 @@ use std::process::ExitCode;
 
 const POINTS: usize = 4;
 const CODES: usize = 3 * POINTS;
+const CR: u8 = 2;
 
 /// White, red, green and blue, as item 203002 has them: Y', Cb and Cr of 10 bits
 /// each, in four bytes.
@@ -67,6 +68,20 @@ fn show_line(descriptor: &[u8]) -> Result<(), Refusal> {
     Ok(())
 }
 
+/// The Cr of each point, without the other channels: only the bytes that hold its field
+/// are read.
+fn show_fields(layout: Layout) -> Result<(), Refusal> {
+    let bytes = imurraqi::field_bytes(layout, CR)?;
+    let (count, first) = (bytes.len(), bytes.start);
+    print!("Cr alone, {count} bytes from byte {first} of each point:");
+    for point in PACKED.chunks(layout.bytes.into()) {
+        let code = imurraqi::field_code(layout, CR, &point[bytes.clone()])?;
+        print!(" {code}");
+    }
+    println!();
+    Ok(())
+}
+
 /// Codes beyond the ends of narrow range, which video keeps for timing. They are
 /// packed and decoded as they are, but encoding makes the nearer end of them.
 fn show_ends(layout: Layout) -> Result<(), Refusal> {
@@ -116,6 +131,7 @@ fn show(stack: &[u8]) -> Result<(), Refusal> {
     let mut descriptor = [0; DESCRIPTOR_SIZE];
     imurraqi::descriptor_write(layout, &mut descriptor)?;
     show_line(&descriptor)?;
+    show_fields(layout)?;
     show_ends(layout)?;
     // A refusal is an answer too, in C minus its number: no card has the item.
     if let Err(refusal @ Refusal::NO_ITEM) = imurraqi::stack_find(stack, 2, 7) {

@@ -8,6 +8,7 @@
 pub mod card;
 pub mod color;
 pub mod descriptor;
+pub mod fields;
 pub mod fixed;
 pub mod float;
 pub mod fraction;

@@ -6,6 +6,7 @@ use std::process::ExitCode;
 use reference::card::{self, Facts};
 use reference::color;
 use reference::descriptor;
+use reference::fields;
 use reference::lines;
 use reference::quantization::{self, Kind, Scale};
 use reference::refusal::Refusal;
@@ -14,6 +15,8 @@ use reference::stack;
 const USAGE: &str = "\
 usage: reference dequantize MODEL RANGE DEPTH CHANNEL CODE
        reference quantize MODEL RANGE DEPTH CHANNEL VALUE
+       reference field-bytes LAYOUT CHANNEL
+       reference field-code LAYOUT CHANNEL BYTES
        reference unpack LAYOUT BYTES
        reference pack LAYOUT CODE...
        reference decode LAYOUT BYTES
@@ -38,8 +41,8 @@ CONVERSION  primaries, depth, range of the given codes, range of the codes made,
             in 1,8,2,2
 EDITION     1, 2 or 3
 ACCESS      0 closed, 1 community, 2 open
-BYTES       hexadecimal digits, two a byte: packed points, or a descriptor, a card or
-            a stack to read";
+BYTES       hexadecimal digits, two a byte: packed points, the bytes of a field, or a
+            descriptor, a card or a stack to read";
 
 fn main() -> ExitCode {
     let arguments: Vec<String> = env::args().skip(1).collect();
@@ -73,6 +76,14 @@ fn answer(arguments: &[&str]) -> Option<Result<String, Refusal>> {
                 channel.parse().ok()?,
                 float_bits(value)?,
             );
+            Some(code.map(|code| code.to_string()))
+        }
+        ["field-bytes", layout, channel] => {
+            let bytes = fields::bytes(numbers(layout)?, channel.parse().ok()?);
+            Some(bytes.map(|bytes| format!("{} bytes from byte {}", bytes.len(), bytes.start)))
+        }
+        ["field-code", layout, channel, given] => {
+            let code = fields::code(numbers(layout)?, channel.parse().ok()?, &bytes(given)?);
             Some(code.map(|code| code.to_string()))
         }
         ["unpack", layout, packed] => Some(unpack(numbers(layout)?, &bytes(packed)?)),

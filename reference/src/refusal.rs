@@ -27,8 +27,8 @@ pub enum Refusal {
     /// An edition asked to write a layout or an access that it lacks.
     EditionLacks = 11,
     NotANumber = 12,
-    /// A line not of whole points or over 4,096 points, or an output that is not
-    /// exactly as long as needed.
+    /// A line not of whole points or over 4,096 points, not exactly the bytes of a
+    /// field, or an output that is not exactly as long as needed.
     Length = 13,
     /// A code above 2^n - 1.
     CodeTooHigh = 14,

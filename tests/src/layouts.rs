@@ -1,4 +1,4 @@
-//! The layouts that lines and descriptors are tried with.
+//! The layouts that lines, fields and descriptors are tried with.
 
 use crate::library::Layout;
 

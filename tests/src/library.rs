@@ -13,6 +13,7 @@ use self::program::StackList;
 pub mod binding;
 pub mod card;
 pub mod entry;
+mod fields;
 pub mod history;
 mod lines;
 pub mod memory;
@@ -40,6 +41,10 @@ pub enum Direction {
 /// lent, and must be left as they are.
 pub type Convert = fn(Direction, Conversion, &mut Guarded<u16>, &mut Guarded<u16>) -> i64;
 
+/// What is told of the bytes of a channel's field, and the code in such bytes.
+pub type FieldBytes = fn(Layout, u8, &mut Guarded<u8>) -> i64;
+pub type FieldCode = fn(Layout, u8, &[u8]) -> i64;
+
 /// The float that dequantizing fills lies among guard words, so that a write
 /// beside it is seen.
 pub type Slot = [u32; 5];
@@ -53,6 +58,9 @@ pub const FLOAT: usize = 2;
 pub struct Library {
     pub dequantize: fn(Setting, u16, &mut Slot) -> i64,
     pub quantize: fn(Setting, f32) -> i64,
+    /// The output is one byte.
+    pub field_bytes: FieldBytes,
+    pub field_code: FieldCode,
     pub unpack_line: fn(Layout, &[u8], &mut Guarded<u16>) -> i64,
     pub pack_line: fn(Layout, &[u16], &mut Guarded<u8>) -> i64,
     /// The output holds the bits of floats.
@@ -100,6 +108,8 @@ pub const fn linked<M: Memory>() -> Library {
     Library {
         dequantize: dequantize::<M>,
         quantize: quantize::<M>,
+        field_bytes: fields::field_bytes::<M>,
+        field_code: fields::field_code::<M>,
         unpack_line: lines::unpack_line::<M>,
         pack_line: lines::pack_line::<M>,
         decode_line: lines::decode_line::<M>,

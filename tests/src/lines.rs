@@ -12,7 +12,7 @@ use crate::quantization::refused;
 use crate::tally::{Flow, Tally};
 
 mod examples;
-mod inputs;
+pub mod inputs;
 mod lengths;
 mod refusals;
 mod shapes;

@@ -13,6 +13,7 @@ mod card;
 mod color;
 mod descriptor;
 mod exhaustive;
+mod field;
 mod guarded;
 mod history;
 mod layouts;

@@ -9,7 +9,7 @@ use crate::library::{linked, Library};
 use crate::part::{entry_parts, Part};
 use crate::show_differences;
 use crate::tally::Tally;
-use crate::{card, color, descriptor, history, lines, quantization, stack};
+use crate::{card, color, descriptor, field, history, lines, quantization, stack};
 
 use self::paged::{Paged, Side};
 use self::seen::Seen;
@@ -112,6 +112,7 @@ fn parts_of(entry: Entry) -> &'static [Part] {
     match entry {
         Entry::DescriptorRead | Entry::DescriptorWrite => descriptor::PARTS,
         Entry::Dequantize | Entry::Quantize => quantization::PARTS,
+        Entry::FieldBytes | Entry::FieldCode => field::PARTS,
         Entry::DecodePoint
         | Entry::DecodeLine
         | Entry::EncodePoint

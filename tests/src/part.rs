@@ -3,6 +3,7 @@
 use crate::card;
 use crate::color;
 use crate::descriptor;
+use crate::field;
 use crate::history;
 use crate::library::Library;
 use crate::lines;
@@ -29,6 +30,7 @@ pub fn library_parts() -> impl Iterator<Item = &'static Part> {
 pub fn entry_parts() -> impl Iterator<Item = &'static Part> {
     [
         quantization::PARTS,
+        field::PARTS,
         lines::PARTS,
         descriptor::PARTS,
         color::PARTS,

@@ -1,13 +1,14 @@
 //! A plain program, which knows nothing of the reference's numbers: values in
-//! float arithmetic, points bit by bit, descriptors byte by byte, colors over one
-//! denominator, cards row by row, stacks from their end. Its pieces can be
-//! exchanged for wrong ones.
+//! float arithmetic, fields from a point of zeros, points bit by bit, descriptors
+//! byte by byte, colors over one denominator, cards row by row, stacks from their
+//! end. Its pieces can be exchanged for wrong ones.
 
 use crate::library::{Convert, Library};
 
 pub mod card;
 pub mod color;
 pub mod descriptor;
+pub mod field;
 pub mod history;
 pub mod layout;
 pub mod lines;
@@ -19,6 +20,8 @@ use self::quantization::{divided, half_up, line, rounded};
 pub const PLAIN: Library = Library {
     dequantize: |setting, code, slot| divided(setting, code, slot, line, |p, q| p / q),
     quantize: |setting, value| rounded(setting, value, line, half_up),
+    field_bytes: |layout, channel, first| field::told(layout, channel, first, field::held),
+    field_code: |layout, channel, bytes| field::taken(layout, channel, bytes, field::held),
     unpack_line: |layout, packed, out| lines::unpacked(layout, packed, out, lines::place),
     pack_line: |layout, codes, out| lines::packed(layout, codes, out, lines::place),
     decode_line: |layout, packed, out| lines::decoded(layout, packed, out, line, |p, q| p / q),

@@ -7,6 +7,7 @@ use crate::card::{
 };
 use crate::color::{self as colors, expected_convert};
 use crate::descriptor::{self as descriptors, expected_read, expected_write};
+use crate::field::{self as fields, expected_field_bytes, expected_field_code};
 use crate::history::{self as histories, replays::expected_replay};
 use crate::library::Library;
 use crate::lines::{
@@ -35,6 +36,9 @@ mod decode;
 mod descriptor;
 mod encode;
 mod ends;
+mod field;
+mod field_bytes;
+mod field_code;
 mod history;
 mod list;
 mod pack;
@@ -50,6 +54,8 @@ pub type Wrong = (&'static str, Library);
 pub const REFERENCE: Library = Library {
     dequantize: expected_dequantize,
     quantize: |setting, value| expected_quantize(setting, value.to_bits()),
+    field_bytes: expected_field_bytes,
+    field_code: expected_field_code,
     unpack_line: expected_unpack_line,
     pack_line: expected_pack_line,
     decode_line: lines::expected_decode_line,
@@ -74,6 +80,9 @@ pub const RIGHT: &[Library] = &[REFERENCE, PLAIN];
 pub const WRONG: &[(&[Part], &[Wrong])] = &[
     (values::PARTS, quantization::WRONG),
     (values::PARTS, ends::QUANTIZING),
+    (fields::PARTS, field::WRONG),
+    (fields::PARTS, field_bytes::WRONG),
+    (fields::PARTS, field_code::WRONG),
     (lines::PARTS, unpack::WRONG),
     (lines::PARTS, pack::WRONG),
     (lines::PARTS, decode::WRONG),

@@ -55,6 +55,15 @@ extern "C" {
         out_len: usize,
     ) -> i64;
 
+    pub fn imurraqi_field_bytes(layout: *const [u8; 8], channel: u8, first: *mut u8) -> i64;
+
+    pub fn imurraqi_field_code(
+        layout: *const [u8; 8],
+        channel: u8,
+        bytes: *const u8,
+        len: usize,
+    ) -> i64;
+
     pub fn imurraqi_unpack_line(
         layout: *const [u8; 8],
         packed: *const u8,

@@ -39,6 +39,7 @@ mod descriptors;
 // The header says what each function does.
 #[allow(missing_docs)]
 pub mod ffi;
+mod fields;
 mod history;
 mod layout;
 mod lines;
@@ -51,6 +52,7 @@ pub use cards::{
 };
 pub use colors::{rgb_to_ycbcr, ycbcr_to_rgb, Conversion};
 pub use descriptors::{descriptor_read, descriptor_write, DESCRIPTOR_SIZE};
+pub use fields::{field_bytes, field_code};
 pub use history::{replay, History, Replayed};
 pub use layout::{model, primaries, range, Layout};
 pub use lines::{

@@ -19,6 +19,17 @@ pub const BINDING: Library = Library {
         })
     },
     quantize: |setting, value| answer(imurraqi::quantize(channel(setting), value), i64::from),
+    field_bytes: |layout, channel, out| {
+        let layout = Layout::from_bytes(layout);
+        answer(imurraqi::field_bytes(layout, channel), |bytes| {
+            out.output().copy_from_slice(&[bytes.start as u8]);
+            bytes.len() as i64
+        })
+    },
+    field_code: |layout, channel, bytes| {
+        let layout = Layout::from_bytes(layout);
+        answer(imurraqi::field_code(layout, channel, bytes), i64::from)
+    },
     unpack_line: |layout, packed, out| {
         let layout = Layout::from_bytes(layout);
         count(imurraqi::unpack_line(layout, packed, out.output()))

@@ -12,6 +12,8 @@ pub enum Entry {
     DecodeLine,
     EncodePoint,
     EncodeLine,
+    FieldBytes,
+    FieldCode,
     UnpackLine,
     PackLine,
     RgbToYcbcr,
@@ -68,7 +70,7 @@ const fn describe(
 }
 
 /// All of them, in the order of their numbers.
-pub static ENTRIES: [Description; 17] = [
+pub static ENTRIES: [Description; 19] = [
     describe(
         Entry::DescriptorRead,
         "imurraqi_descriptor_read",
@@ -111,6 +113,18 @@ pub static ENTRIES: [Description; 17] = [
         "imurraqi_encode_line",
         &[9, 12, 13],
         &[In("layout"), In("values"), Out("out")],
+    ),
+    describe(
+        Entry::FieldBytes,
+        "imurraqi_field_bytes",
+        &[9],
+        &[In("layout"), Out("first")],
+    ),
+    describe(
+        Entry::FieldCode,
+        "imurraqi_field_code",
+        &[9, 13],
+        &[In("layout"), In("bytes")],
     ),
     describe(
         Entry::UnpackLine,

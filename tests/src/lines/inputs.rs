@@ -21,7 +21,7 @@ pub fn line(layout: Layout, points: usize, random: &mut Random) -> Line {
 }
 
 /// Any bytes at all, so unused bits are set too.
-fn packed(layout: Layout, points: usize, random: &mut Random) -> Vec<u8> {
+pub fn packed(layout: Layout, points: usize, random: &mut Random) -> Vec<u8> {
     (0..points * bytes_a_point(layout))
         .map(|_| random.next() as u8)
         .collect()

@@ -7,12 +7,15 @@ use crate::guarded::Guarded;
 use crate::layouts::{bytes_a_point, DEPTH, LEGACY, OFFSETS, PRIMARIES, RANGE};
 use crate::library::{Layout, Library};
 use crate::lines::{answer, expected_decode_line, expected_decode_point};
-use crate::plain::lines::decoded;
+use crate::plain::lines::{decoded, Place};
 use crate::plain::quantization::line;
 use crate::quantization::refused;
 
 use super::ends::{line_within_the_ends, refusing_points};
-use super::points::{keeping_from, older_as_full};
+use super::points::{
+    keeping_from, older_as_full, place_in_neighbours_bytes, place_in_turned_bytes,
+    place_in_two_bytes, with_places,
+};
 use super::{Wrong, REFERENCE};
 
 pub const WRONG: &[Wrong] = &[
@@ -53,6 +56,25 @@ pub const WRONG: &[Wrong] = &[
         }
         expected_decode_line(layout, &turned, out)
     }),
+    decodes(
+        "a field read from its neighbour's bytes, decoding",
+        |layout, packed, out| decoded_from(layout, packed, out, place_in_neighbours_bytes),
+    ),
+    decodes(
+        "the bytes of a field in the other order, decoding",
+        |layout, packed, out| decoded_from(layout, packed, out, place_in_turned_bytes),
+    ),
+    decodes(
+        "a field's third byte taken for its second, decoding",
+        |layout, packed, out| decoded_from(layout, packed, out, place_in_two_bytes),
+    ),
+    decodes_points(
+        "a field read from its neighbour's bytes, decoding a point",
+        |layout, bytes, out| {
+            let moved = with_places(layout, bytes, place_in_neighbours_bytes);
+            expected_decode_point(layout, &moved, out)
+        },
+    ),
     // Values.
     decodes("a constant float", |layout, packed, out| {
         let count = expected_decode_line(layout, packed, out);
@@ -323,4 +345,9 @@ const fn decodes_points(
         ..REFERENCE
     };
     (mistake, library)
+}
+
+/// Decodes the codes that lie in other places.
+fn decoded_from(layout: Layout, packed: &[u8], out: &mut Guarded<u32>, place: Place) -> i64 {
+    expected_decode_line(layout, &with_places(layout, packed, place), out)
 }

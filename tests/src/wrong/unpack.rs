@@ -12,7 +12,10 @@ use crate::plain::lines::{load_fields, place, unpacked};
 use crate::quantization::refused;
 
 use super::ends::{line_within_the_ends, refusing_points};
-use super::points::{big_endian_place, keeping_from, neighbours_place};
+use super::points::{
+    big_endian_place, keeping_from, neighbours_place, place_in_neighbours_bytes,
+    place_in_turned_bytes, place_in_two_bytes,
+};
 use super::{Wrong, REFERENCE};
 
 pub const WRONG: &[Wrong] = &[
@@ -33,6 +36,18 @@ pub const WRONG: &[Wrong] = &[
     unpacks("big-endian points unpacked", |layout, packed, out| {
         unpacked(layout, packed, out, big_endian_place)
     }),
+    unpacks(
+        "a field read from its neighbour's bytes, unpacking",
+        |layout, packed, out| unpacked(layout, packed, out, place_in_neighbours_bytes),
+    ),
+    unpacks(
+        "the bytes of a field in the other order, unpacking",
+        |layout, packed, out| unpacked(layout, packed, out, place_in_turned_bytes),
+    ),
+    unpacks(
+        "a field's third byte taken for its second, unpacking",
+        |layout, packed, out| unpacked(layout, packed, out, place_in_two_bytes),
+    ),
     unpacks("points cut to 32 bits", |layout, packed, out| {
         let mut cut = packed.to_vec();
         if layout::Layout::new(layout).is_ok() {
@@ -148,14 +163,14 @@ const fn unpacks(
     (mistake, library)
 }
 
-fn only_overlaps(layout: Layout) -> bool {
+pub fn only_overlaps(layout: Layout) -> bool {
     layout::Layout::new(with_fields_apart(layout)).is_ok()
         && layout[OFFSETS..]
             .iter()
             .all(|offset| offset.saturating_add(layout[DEPTH]) <= 8 * layout[BYTES])
 }
 
-fn with_fields_apart(layout: Layout) -> Layout {
+pub fn with_fields_apart(layout: Layout) -> Layout {
     let mut apart = layout;
     apart[OFFSETS..].copy_from_slice(&[0, 1, 2].map(|field| layout[DEPTH].wrapping_mul(field)));
     apart
