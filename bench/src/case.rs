@@ -1,4 +1,5 @@
-//! One job, done by the library and by plain Rust: checked, then measured.
+//! One job, done by the library, by plain Rust, and by an earlier library if one is
+//! given: checked, then measured.
 
 use std::hint::black_box;
 
@@ -18,12 +19,25 @@ pub struct Label {
     pub input: String,
 }
 
+impl Label {
+    fn wrong(&self, what: &str, answers: [i64; 2]) -> String {
+        let Label {
+            entry,
+            setting,
+            input,
+        } = self;
+        format!("{entry}, {setting}, {input}: {what} {answers:?}")
+    }
+}
+
 pub struct Case {
     pub label: Label,
     /// The most bytes of stack that a call of the library used.
     pub stack: usize,
     library: Side,
     plain: Side,
+    /// The library before, where it is given and has the entry.
+    before: Option<Side>,
     /// The library at each of the lengths; none but for lines.
     lengths: Vec<Side>,
 }
@@ -66,11 +80,12 @@ impl Case {
             check.add(wanted, &output, library, plain)?;
         }
         let [library, plain] = jobs;
-        let side = |job, length| Side::new(POINTS, line_run(job, accepted.clone(), length));
+        let side = |job, length| line_side(job, accepted.clone(), length);
         Ok(Case {
             stack: check.stack,
             library: side(library, POINTS),
             plain: side(plain, POINTS),
+            before: None,
             lengths: LENGTHS.map(|length| side(library, length)).into(),
             label,
         })
@@ -93,41 +108,41 @@ impl Case {
             let [library, plain] = jobs.map(|job| move |made: &mut O| job(black_box(input), made));
             check.add(wanted, &output, library, plain)?;
         }
-        let [library, plain] = jobs.map(|job| {
-            let (inputs, mut made) = (accepted.clone(), output.clone());
-            Side::new(inputs.len(), move || {
-                for input in &inputs {
-                    black_box(job(black_box(input), black_box(&mut made)));
-                }
-            })
-        });
+        let [library, plain] = jobs.map(|job| call_side(job, accepted.clone(), output.clone()));
         Ok(Case {
             stack: check.stack,
             library,
             plain,
+            before: None,
             lengths: Vec::new(),
             label,
         })
+    }
+
+    /// Beside the library before, if it is given. An error if that answers otherwise.
+    pub fn beside(mut self, before: Option<Side>) -> Result<Case, String> {
+        self.before = before;
+        if let Some(before) = &mut self.before {
+            let answers = [self.library.answers(), before.answers()];
+            if answers[0] != answers[1] {
+                let what = "the library before answers otherwise,";
+                return Err(self.label.wrong(what, answers));
+            }
+        }
+        Ok(self)
     }
 
     pub fn is_line(&self) -> bool {
         !self.lengths.is_empty()
     }
 
-    /// Measures all sides once. The two programs take turns at going first, and so
-    /// do the lengths: a processor learns the branches of a line that comes again.
+    /// Measures all sides once. The programs take turns at going first, and so do
+    /// the lengths: a processor learns the branches of a line that comes again.
     pub fn measure(&mut self, round: usize) {
-        if round.is_multiple_of(2) {
-            self.library.measure();
-            self.plain.measure();
-        } else {
-            self.plain.measure();
-            self.library.measure();
-        }
-        let count = self.lengths.len();
-        for turn in 0..count {
-            self.lengths[(turn + round) % count].measure();
-        }
+        let mut programs = vec![&mut self.library, &mut self.plain];
+        programs.extend(&mut self.before);
+        measure_in_turn(programs, round);
+        measure_in_turn(self.lengths.iter_mut().collect(), round);
     }
 
     /// The library's nanoseconds a point or a call.
@@ -143,6 +158,12 @@ impl Case {
     /// so a slow time of the machine moves the ratio less than the times.
     pub fn ratio(&self) -> f64 {
         median(self.library.over(&self.plain))
+    }
+
+    /// The same to the library before.
+    pub fn before(&self) -> Option<f64> {
+        let before = self.before.as_ref()?;
+        Some(median(self.library.over(before)))
     }
 
     /// Nanoseconds a point at each of the lengths.
@@ -163,11 +184,23 @@ impl Case {
     }
 }
 
+fn measure_in_turn(mut sides: Vec<&mut Side>, round: usize) {
+    let count = sides.len();
+    for turn in 0..count {
+        sides[(turn + round) % count].measure();
+    }
+}
+
 /// The whole line, as lines of so many points.
-fn line_run<S, I, O>(job: LineJob<S, I, O>, line: Line<S, I>, length: usize) -> impl FnMut()
+pub fn line_side<S, I, O>(
+    job: impl Fn(S, &[I], &mut [O]) -> i64 + 'static,
+    line: Line<S, I>,
+    length: usize,
+) -> Side
 where
-    S: Copy,
-    O: Copy + Default,
+    S: Copy + 'static,
+    I: 'static,
+    O: Copy + Default + 'static,
 {
     let Line {
         numbers,
@@ -177,16 +210,26 @@ where
     let given = elements.len() / POINTS * length;
     let made = output / POINTS * length;
     let mut output = vec![O::default(); output];
-    move || {
+    Side::new(POINTS, move || {
         let lines = elements.chunks_exact(given);
-        for (elements, output) in lines.zip(output.chunks_exact_mut(made)) {
-            black_box(job(
-                black_box(numbers),
-                black_box(elements),
-                black_box(output),
-            ));
-        }
-    }
+        let lines = lines.zip(output.chunks_exact_mut(made));
+        let answers =
+            lines.map(|(given, made)| job(black_box(numbers), black_box(given), black_box(made)));
+        answers.sum()
+    })
+}
+
+/// A call for each of the inputs.
+pub fn call_side<I: 'static, O: 'static>(
+    job: impl Fn(&I, &mut O) -> i64 + 'static,
+    inputs: Vec<I>,
+    mut made: O,
+) -> Side {
+    Side::new(inputs.len(), move || {
+        let inputs = inputs.iter();
+        let answers = inputs.map(|input| job(black_box(input), black_box(&mut made)));
+        answers.sum()
+    })
 }
 
 /// All inputs, and whether each is to be accepted.
@@ -218,12 +261,7 @@ impl Check<'_> {
         let mut by_library = output.clone();
         let mut by_plain = output.clone();
         let answers = [library(&mut by_library), plain(&mut by_plain)];
-        let Label {
-            entry,
-            setting,
-            input,
-        } = self.label;
-        let wrong = |what: &str| Err(format!("{entry}, {setting}, {input}: {what} {answers:?}"));
+        let wrong = |what| Err(self.label.wrong(what, answers));
         if answers[0] != answers[1] || by_library != by_plain {
             return wrong("different answers or outputs,");
         }

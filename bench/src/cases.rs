@@ -1,5 +1,6 @@
 //! Every entry of the C interface with the inputs that it is measured on.
 
+use crate::before::Before;
 use crate::case::{Case, Label};
 
 mod cards;
@@ -14,12 +15,12 @@ mod values;
 const MANY: usize = 512;
 
 /// In the order of the header. An error if some outputs differ.
-pub fn all() -> Result<Vec<Case>, String> {
+pub fn all(before: Option<&Before>) -> Result<Vec<Case>, String> {
     let subjects = [
         descriptors::cases()?,
-        values::cases()?,
+        values::cases(before)?,
         fields::cases()?,
-        lines::cases()?,
+        lines::cases(before)?,
         colors::cases()?,
         cards::cases()?,
         history::cases()?,

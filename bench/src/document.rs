@@ -6,10 +6,14 @@ use crate::case::LENGTHS;
 use crate::inputs::POINTS;
 use crate::machine;
 use crate::stack_use;
-use crate::table::MOST_GROWTH;
+use crate::table::{MOST_APART, MOST_GROWTH};
 use crate::ROUNDS;
 
-pub fn text(load: &str, table: &str, verdict: &str) -> String {
+const BEFORE: &str = "
+- *before*: how many times as long the library takes as it did in an earlier state, whose archive was measured in the same rounds;
+  again the median of the rounds' ratios. Empty where an entry is not compared.";
+
+pub fn text(load: &str, table: &str, verdict: &str, before: bool) -> String {
     let told = |name| env::var(name).unwrap_or_else(|_| "unknown".to_string());
     let (date, rustc, rattle) = (
         told("BENCH_DATE"),
@@ -19,6 +23,7 @@ pub fn text(load: &str, table: &str, verdict: &str) -> String {
     let machine = machine::kind();
     let lengths = LENGTHS.map(|length| length.to_string()).join(", ");
     let limit = stack_use::LIMIT;
+    let before = if before { BEFORE } else { "" };
     format!(
         "# Performance
 
@@ -36,10 +41,14 @@ Written by `bench/run --write`, from one run; `bench/run` alone prints the same 
   plain Rust that does the same job with the same refusals, and how many times as long the library takes. Medians of {ROUNDS}
   rounds; both are measured one after the other in each round, and the ratio is the median of the rounds' ratios. Before
   that both are run on every input, refused ones too, and must give the same answers and outputs.
-- *setting*: a line is in narrow range where none is named; older full is range 3.
+- *setting*: a line is in narrow range where none is named; older full is range 3. Where bits are *at* given
+  offsets, fields reach into a third byte: they have 2, 3 and 2 bytes in a point of 5, and 3 each in one of 8. In the other
+  layouts of lines all three have 1 byte (8 bits) or 2.
 - *input*: a row's inputs are smooth and random lines, of all depths for colors; shown is the one with the greatest
   ratio.
-- *aim*: the ratio that is not to be exceeded, where one is set. It is not enforced.
+- *aim*: the ratio that is not to be exceeded, where one is set. It is not enforced. But the run fails if one of the
+  two takes over {MOST_APART} times as long as the other to decode a line: a loop that the compiler no longer does four points of
+  at a time takes 1.4 to 2.5 times as long, and nothing else would tell.{before}
 - *at {lengths}*: the library's nanoseconds a point where the same {POINTS} points are given as lines of so many.
 - *growth*: the most by which the cost a point rises from one of these lengths to any longer one, on any of the row's
   inputs: under 1 it falls everywhere. The run fails above {MOST_GROWTH}.
@@ -50,6 +59,13 @@ Written by `bench/run --write`, from one run; `bench/run` alone prints the same 
 
 What a line needs is worked out once (scales, rows, sizes). Every loop over a long line is of a shape that the compiler does two
 or more points of at a time, with SSE2 alone. Encoding and conversion do eight points a turn: all eight are worked out before any is stored.
+
+*Decoding* and *unpacking* take each code from the one to three bytes that hold its field, and look at no others. Where the three
+fields of a layout have the same count of bytes, one loop goes from point to point; else one loop follows the other, a channel
+each. Points of 4 bytes lost by it: four of them, 16 bytes, used to be loaded at once, and a code may no longer be taken out of
+more than its own bytes. The step from one point to the next is written as a sum of two halves, bytes / 2 + (bytes + 1) / 2. If it
+were a bare number, the compiler would take it for 1, and make a loop of four points at a time for that step, which no layout has; the true
+step would be left to a loop of one point at a time. It does not try that with a sum.
 
 *Encoding* is one product and one sum in f64: t = v span + (base + 4096.5). v is an f32 of 24 digits and span has 13 at most, so
 that the product is exact. Two comparisons bring t to low + 4096 .. high + 4096. From 4096 to below 8192 an f64 has 40 digits below the

@@ -4,8 +4,10 @@ use std::env;
 use std::fs;
 use std::process::ExitCode;
 
-use crate::table::Row;
+use crate::before::Before;
+use crate::table::{Row, MOST_APART};
 
+mod before;
 mod case;
 mod cases;
 mod document;
@@ -25,10 +27,15 @@ const DOCUMENT: &str = "docs/PERFORMANCE.md";
 
 fn main() -> ExitCode {
     let arguments: Vec<String> = env::args().skip(1).collect();
-    let result = match arguments.as_slice() {
-        [] => run(false),
-        [write] if write == "--write" => run(true),
-        _ => Err("usage: bench/run [--write]".to_string()),
+    // bench/run puts it first, and has made a shared object of the archive.
+    let (before, others) = match arguments.as_slice() {
+        [name, path, others @ ..] if name == "--before" => (Some(path.as_str()), others),
+        others => (None, others),
+    };
+    let result = match others {
+        [] => run(false, before),
+        [write] if write == "--write" => run(true, before),
+        _ => Err("usage: bench/run [--write] [--before ARCHIVE]".to_string()),
     };
     match result {
         Ok(true) => ExitCode::SUCCESS,
@@ -40,13 +47,15 @@ fn main() -> ExitCode {
     }
 }
 
-/// Whether no entry needs too much stack and no cost a point rises.
-fn run(write: bool) -> Result<bool, String> {
+/// Whether no entry needs too much stack, no cost a point rises, and neither program
+/// decodes so slowly that it must do one point at a time.
+fn run(write: bool, before: Option<&str>) -> Result<bool, String> {
     if !stack_use::is_seen() {
         return Err("the use of stack is not seen".to_string());
     }
     let load = machine::load();
-    let mut cases = cases::all()?;
+    let before = before.map(Before::load).transpose()?;
+    let mut cases = cases::all(before.as_ref())?;
     // Every case in every round, so that a slow time of the machine falls on all.
     for round in 0..ROUNDS {
         for case in &mut cases {
@@ -54,14 +63,15 @@ fn run(write: bool) -> Result<bool, String> {
         }
     }
     let rows = table::rows(&cases);
-    let table = table::text(&rows);
+    let table = table::text(&rows, before.is_some());
     let verdict = verdict(&rows);
     print!("{table}\n{verdict}");
     if write {
-        let text = document::text(&load, &table, &verdict);
+        let text = document::text(&load, &table, &verdict, before.is_some());
         fs::write(DOCUMENT, text).map_err(|error| format!("{DOCUMENT}: {error}"))?;
     }
-    Ok(!rows.iter().any(|row| row.too_deep() || row.rises()))
+    let fails = |row: &Row| row.too_deep() || row.rises() || row.apart();
+    Ok(!rows.iter().any(fails))
 }
 
 fn verdict(rows: &[Row]) -> String {
@@ -69,10 +79,15 @@ fn verdict(rows: &[Row]) -> String {
     let deepest = deepest.map_or(String::new(), |row| {
         format!("{}, {} bytes", row.entry(), row.stack())
     });
+    let apart = format!(
+        "Decoding that takes one program over {MOST_APART} times as long as the other, as one \
+         point at a time does"
+    );
     let lines = [
         format!("- Deepest entry: {deepest}."),
         names("Over the limit of stack", rows, |row| row.too_deep()),
         names("Rising cost a point", rows, |row| row.rises()),
+        names(&apart, rows, |row| row.apart()),
         names("Over their aims", rows, |row| row.over_aim()),
     ];
     lines.join("\n") + "\n"

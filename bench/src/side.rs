@@ -1,12 +1,13 @@
 //! One program's part in a case, and its times.
 
+use std::hint::black_box;
 use std::time::Instant;
 
 /// Runs in one measurement: enough for the clock, few enough to stay undisturbed.
 const RUNS: usize = 8;
 
 pub struct Side {
-    run: Box<dyn FnMut()>,
+    run: Box<dyn FnMut() -> i64>,
     /// The points or calls of one run.
     count: usize,
     /// Nanoseconds a point or a call, one for each round.
@@ -14,7 +15,7 @@ pub struct Side {
 }
 
 impl Side {
-    pub fn new(count: usize, run: impl FnMut() + 'static) -> Side {
+    pub fn new(count: usize, run: impl FnMut() -> i64 + 'static) -> Side {
         Side {
             run: Box::new(run),
             count,
@@ -22,12 +23,17 @@ impl Side {
         }
     }
 
+    /// Runs once. The sum of all answers.
+    pub fn answers(&mut self) -> i64 {
+        black_box((self.run)())
+    }
+
     pub fn measure(&mut self) {
         // Once unmeasured, so that the memory is near and the loop is known.
-        (self.run)();
+        self.answers();
         let start = Instant::now();
         for _ in 0..RUNS {
-            (self.run)();
+            self.answers();
         }
         let nanoseconds = start.elapsed().as_nanos() as f64;
         self.times.push(nanoseconds / (RUNS * self.count) as f64);

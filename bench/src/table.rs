@@ -6,10 +6,18 @@ use crate::stack_use;
 /// A longer line may cost so many times as much a point, for the clock's sake.
 pub const MOST_GROWTH: f64 = 1.1;
 
-const HEAD: [&str; 11] = [
-    "entry", "setting", "input", "a", "library", "plain", "ratio", "aim", "lengths", "growth",
-    "stack",
+/// Both programs decode a line in loops that do four points at a time, and neither
+/// may take so many times as long as the other. One point at a time was seen to take
+/// 1.4 to 2.5 times as long, and less only where all fields have three bytes.
+pub const MOST_APART: f64 = 1.35;
+
+const HEAD: [&str; 12] = [
+    "entry", "setting", "input", "a", "library", "plain", "ratio", "aim", BEFORE, "lengths",
+    "growth", "stack",
 ];
+
+/// A column that is shown only where there is an earlier library.
+const BEFORE: &str = "before";
 
 /// The first columns are words, the others numbers.
 const WORDS: usize = 4;
@@ -48,6 +56,11 @@ impl Row<'_> {
         aim(self.entry()).is_some_and(|aim| self.worst().ratio() > aim)
     }
 
+    pub fn apart(&self) -> bool {
+        let ratio = self.worst().ratio();
+        self.entry() == "decode_line" && ratio.max(1.0 / ratio) > MOST_APART
+    }
+
     pub fn rises(&self) -> bool {
         self.growth().is_some_and(|growth| growth > MOST_GROWTH)
     }
@@ -82,7 +95,7 @@ impl Row<'_> {
         label.entry == case.label.entry && label.setting == case.label.setting
     }
 
-    fn cells(&self) -> Vec<String> {
+    fn cells(&self, before: bool) -> Vec<String> {
         let case = self.worst();
         let mut cells = vec![
             case.label.entry.to_string(),
@@ -91,14 +104,16 @@ impl Row<'_> {
             if case.is_line() { "point" } else { "call" }.to_string(),
             nanoseconds(case.library()),
             nanoseconds(case.plain()),
-            format!("{:.2}", case.ratio()),
+            times(Some(case.ratio())),
             aim(case.label.entry).map_or(String::new(), |aim| aim.to_string()),
         ];
+        if before {
+            cells.push(times(case.before()));
+        }
         let mut lengths: Vec<String> = case.lengths().into_iter().map(nanoseconds).collect();
         lengths.resize(LENGTHS.len(), String::new());
         cells.extend(lengths);
-        let growth = self.growth();
-        cells.push(growth.map_or(String::new(), |growth| format!("{growth:.2}")));
+        cells.push(times(self.growth()));
         cells.push(self.stack().to_string());
         cells
     }
@@ -115,6 +130,11 @@ fn aim(entry: &str) -> Option<f64> {
     }
 }
 
+/// How many times as much, where it is known.
+fn times(ratio: Option<f64>) -> String {
+    ratio.map_or(String::new(), |ratio| format!("{ratio:.2}"))
+}
+
 /// Three digits at least.
 fn nanoseconds(number: f64) -> String {
     if number < 10.0 {
@@ -126,10 +146,11 @@ fn nanoseconds(number: f64) -> String {
     }
 }
 
-/// The rows as Markdown, in columns of one width.
-pub fn text(rows: &[Row]) -> String {
-    let mut lines: Vec<Vec<String>> = vec![head()];
-    lines.extend(rows.iter().map(Row::cells));
+/// The rows as Markdown, in columns of one width, with or without the column of the
+/// library before.
+pub fn text(rows: &[Row], before: bool) -> String {
+    let mut lines: Vec<Vec<String>> = vec![head(before)];
+    lines.extend(rows.iter().map(|row| row.cells(before)));
     let widths: Vec<usize> = (0..lines[0].len())
         .map(|column| {
             lines
@@ -165,9 +186,12 @@ fn rule(widths: &[usize]) -> String {
     rule + "|\n"
 }
 
-fn head() -> Vec<String> {
+fn head(before: bool) -> Vec<String> {
     let mut head = Vec::new();
     for name in HEAD {
+        if name == BEFORE && !before {
+            continue;
+        }
         if name == "lengths" {
             head.extend(LENGTHS.map(|length| format!("at {length}")));
         } else {

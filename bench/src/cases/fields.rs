@@ -1,4 +1,4 @@
-//! One channel's field of any layouts.
+//! The fields of any layouts.
 
 use super::{label, MANY};
 use crate::case::Case;
@@ -7,59 +7,54 @@ use crate::plain::fields as plain;
 use crate::plain::layout::Numbers;
 use crate::random::Random;
 
-/// A layout, a channel, bytes, and how many of them hold the field.
-type Field = (Numbers, u8, [u8; 4], usize);
+/// A layout and a channel.
+type Asked = (Numbers, u8);
 
 pub fn cases() -> Result<Vec<Case>, String> {
-    Ok(vec![field_bytes()?, field_code()?])
+    let mut random = Random::new();
+    let any = |_| (random.layout(), random.below(3));
+    let asked: Vec<Asked> = (0..MANY).map(any).collect();
+    let (layout, channel) = asked[0];
+    let outside: [Asked; 2] = [([0; 8], channel), (layout, 3)];
+    Ok(vec![
+        field_bytes(&asked, &outside)?,
+        field_code(&mut random, &asked, &outside)?,
+    ])
 }
 
-fn field_bytes() -> Result<Case, String> {
-    let (fields, refused) = inputs();
+fn field_bytes(asked: &[Asked], outside: &[Asked]) -> Result<Case, String> {
     Case::calls(
         label("field_bytes", "one field", "any layouts"),
-        fields,
-        &refused[..2],
+        asked.to_vec(),
+        outside,
         0,
         [
-            |(layout, channel, ..), first| library::field_bytes(*layout, *channel, first),
-            |(layout, channel, ..), first| plain::field_bytes(*layout, *channel, first),
+            |(layout, channel), first| library::field_bytes(*layout, *channel, first),
+            |(layout, channel), first| plain::field_bytes(*layout, *channel, first),
         ],
     )
 }
 
-fn field_code() -> Result<Case, String> {
-    let (fields, refused) = inputs();
+fn field_code(random: &mut Random, asked: &[Asked], outside: &[Asked]) -> Result<Case, String> {
+    // One byte where there is no field.
+    let mut held = |(layout, channel): &Asked| {
+        let count = plain::field_bytes(*layout, *channel, &mut 0).max(1);
+        let bytes: Vec<u8> = (0..count).map(|_| random.next() as u8).collect();
+        (*layout, *channel, bytes)
+    };
+    let accepted: Vec<(Numbers, u8, Vec<u8>)> = asked.iter().map(&mut held).collect();
+    let mut refused: Vec<(Numbers, u8, Vec<u8>)> = outside.iter().map(held).collect();
+    let (layout, channel, bytes) = &accepted[0];
+    refused.push((*layout, *channel, bytes[1..].to_vec()));
+    refused.push((*layout, *channel, [&bytes[..], &[0]].concat()));
     Case::calls(
         label("field_code", "one field", "any layouts"),
-        fields,
+        accepted,
         &refused,
         (),
         [
-            |(layout, channel, bytes, count), ()| {
-                library::field_code(*layout, *channel, &bytes[..*count])
-            },
-            |(layout, channel, bytes, count), ()| {
-                plain::field_code(*layout, *channel, &bytes[..*count])
-            },
+            |(layout, channel, bytes), ()| library::field_code(*layout, *channel, bytes),
+            |(layout, channel, bytes), ()| plain::field_code(*layout, *channel, bytes),
         ],
     )
-}
-
-/// Fields, and those that are refused: by a layout, by a channel, by four bytes.
-fn inputs() -> (Vec<Field>, [Field; 3]) {
-    let mut random = Random::new();
-    let field = |_| {
-        let (layout, channel) = (random.layout(), random.below(3));
-        let count = plain::field_bytes(layout, channel, &mut 0) as usize;
-        (layout, channel, random.next().to_le_bytes(), count)
-    };
-    let fields: Vec<Field> = (0..MANY).map(field).collect();
-    let (layout, channel, bytes, count) = fields[0];
-    let refused = [
-        ([0; 8], channel, bytes, count),
-        (layout, 3, bytes, count),
-        (layout, channel, bytes, bytes.len()),
-    ];
-    (fields, refused)
 }

@@ -1,8 +1,9 @@
-//! Lines in four layouts, smooth and random, and decoding and encoding in the other
-//! ranges.
+//! Lines in four layouts, smooth and random, decoding and unpacking in two more, and
+//! decoding and encoding in the other ranges.
 
 use super::label;
-use crate::case::{Case, Label, Line, LineJob};
+use crate::before::{Before, LineBefore};
+use crate::case::{line_side, Case, Label, Line, LineJob};
 use crate::inputs::{self, packed_length, Forms, POINTS};
 use crate::library::lines as library;
 use crate::plain::layout::Numbers;
@@ -17,7 +18,11 @@ const LAYOUTS: [Numbers; 4] = [
     [2, 4, 1, 12, 8, 4, 20, 36],
 ];
 
-/// 12 bits in 5 bytes, as above, in both full ranges.
+/// Fields of 2, 3 and 2 bytes, which are read one channel after the other, and of 3
+/// each. Those above have 1 or 2 bytes each.
+const STRADDLING: [Numbers; 2] = [[2, 4, 1, 12, 5, 1, 13, 25], [2, 4, 1, 12, 8, 6, 22, 38]];
+
+/// The third of `LAYOUTS` in both full ranges.
 const FULL: [u8; 2] = [2, 3];
 
 /// No model 3.
@@ -25,65 +30,111 @@ const OUTSIDE: Numbers = [3, 1, 1, 8, 3, 0, 8, 16];
 
 const ELEMENTS: usize = 3 * POINTS;
 
-pub fn cases() -> Result<Vec<Case>, String> {
+pub fn cases(before: Option<&Before>) -> Result<Vec<Case>, String> {
     let mut cases = Vec::new();
     for layout in LAYOUTS {
-        let lines = [
-            ("smooth", inputs::smooth(layout)),
-            ("random", inputs::random(layout)),
-        ];
-        for (input, line) in lines {
-            let bytes = packed_length(layout);
-            let called = |entry| named(entry, layout, input);
-            cases.extend(floats(layout, input, &line)?);
-            cases.push(case(
-                called("unpack_line"),
-                (layout, &line.packed, ELEMENTS),
-                None,
-                [library::unpack_line, plain::unpack_line],
-            )?);
-            cases.push(case(
-                called("pack_line"),
-                (layout, &line.codes, bytes),
-                Some(u16::MAX),
-                [library::pack_line, plain::pack_line],
-            )?);
+        for line in given(layout, before) {
+            cases.push(line.decode()?);
+            cases.push(line.encode()?);
+            cases.push(line.unpack()?);
+            cases.push(line.pack()?);
+        }
+    }
+    for layout in STRADDLING {
+        for line in given(layout, before) {
+            cases.push(line.decode()?);
+            cases.push(line.unpack()?);
         }
     }
     for range in FULL {
         let mut layout = LAYOUTS[2];
         layout[2] = range;
-        cases.extend(floats(layout, "smooth", &inputs::smooth(layout))?);
-        cases.extend(floats(layout, "random", &inputs::random(layout))?);
+        for line in given(layout, before) {
+            cases.push(line.decode()?);
+            cases.push(line.encode()?);
+        }
     }
     Ok(cases)
 }
 
-/// What depends on the range.
-fn floats(layout: Numbers, input: &str, line: &Forms) -> Result<[Case; 2], String> {
-    let decode = case(
-        named("decode_line", layout, input),
-        (layout, &line.packed, ELEMENTS),
-        None,
-        [library::decode_line, plain::decode_line],
-    )?;
-    let encode = case(
-        named("encode_line", layout, input),
-        (layout, &line.values, packed_length(layout)),
-        Some(f32::NAN),
-        [library::encode_line, plain::encode_line],
-    )?;
-    Ok([decode, encode])
+/// A line that is given to the entries.
+struct Given<'a> {
+    layout: Numbers,
+    input: &'static str,
+    forms: Forms,
+    before: Option<&'a Before>,
 }
 
-fn named(entry: &'static str, layout: Numbers, input: &str) -> Label {
-    let [_, _, range, depth, bytes, ..] = layout;
-    let range = match range {
-        1 => "",
-        2 => ", full",
-        _ => ", older full",
-    };
-    label(entry, &format!("{bytes} bytes, {depth} bits{range}"), input)
+fn given(layout: Numbers, before: Option<&Before>) -> [Given<'_>; 2] {
+    let forms = [
+        ("smooth", inputs::smooth(layout)),
+        ("random", inputs::random(layout)),
+    ];
+    forms.map(|(input, forms)| Given {
+        layout,
+        input,
+        forms,
+        before,
+    })
+}
+
+impl Given<'_> {
+    fn decode(&self) -> Result<Case, String> {
+        case(
+            self.named("decode_line"),
+            (self.layout, &self.forms.packed, ELEMENTS),
+            None,
+            [library::decode_line, plain::decode_line],
+            self.before.and_then(Before::decode_line),
+        )
+    }
+
+    fn encode(&self) -> Result<Case, String> {
+        case(
+            self.named("encode_line"),
+            (self.layout, &self.forms.values, packed_length(self.layout)),
+            Some(f32::NAN),
+            [library::encode_line, plain::encode_line],
+            None,
+        )
+    }
+
+    fn unpack(&self) -> Result<Case, String> {
+        case(
+            self.named("unpack_line"),
+            (self.layout, &self.forms.packed, ELEMENTS),
+            None,
+            [library::unpack_line, plain::unpack_line],
+            self.before.and_then(Before::unpack_line),
+        )
+    }
+
+    fn pack(&self) -> Result<Case, String> {
+        case(
+            self.named("pack_line"),
+            (self.layout, &self.forms.codes, packed_length(self.layout)),
+            Some(u16::MAX),
+            [library::pack_line, plain::pack_line],
+            self.before.and_then(Before::pack_line),
+        )
+    }
+
+    fn named(&self, entry: &'static str) -> Label {
+        let [_, _, range, depth, bytes, offsets @ ..] = self.layout;
+        let range = match range {
+            1 => "",
+            2 => ", full",
+            _ => ", older full",
+        };
+        let places = if STRADDLING.contains(&self.layout) {
+            let places = offsets.map(|offset| offset.to_string());
+            format!(" at {}", places.join(", "))
+        } else {
+            String::new()
+        };
+        let setting = format!("{bytes} bytes, {depth} bits{places}{range}");
+        label(entry, &setting, self.input)
+    }
 }
 
 /// Refused too: a layout outside the paper, an output too short, and a line that
@@ -93,6 +144,7 @@ fn case<I, O>(
     (numbers, elements, output): (Numbers, &[I], usize),
     wrong: Option<I>,
     jobs: [LineJob<Numbers, I, O>; 2],
+    before: Option<LineBefore<I, O>>,
 ) -> Result<Case, String>
 where
     I: Copy + 'static,
@@ -111,5 +163,6 @@ where
         line.elements[elements.len() - 1] = element;
         refused.push(line);
     }
-    Case::line(label, line, &refused, jobs)
+    let before = before.map(|job| line_side(job, line.clone(), POINTS));
+    Case::line(label, line, &refused, jobs)?.beside(before)
 }

@@ -1,7 +1,8 @@
 //! Single values and points of any settings.
 
 use super::{label, MANY};
-use crate::case::Case;
+use crate::before::Before;
+use crate::case::{call_side, Case};
 use crate::library;
 use crate::plain;
 use crate::plain::layout::Numbers;
@@ -11,11 +12,11 @@ use crate::random::Random;
 /// The longest point, in bytes.
 const LONGEST: usize = 8;
 
-pub fn cases() -> Result<Vec<Case>, String> {
+pub fn cases(before: Option<&Before>) -> Result<Vec<Case>, String> {
     Ok(vec![
         dequantize()?,
         quantize()?,
-        decode_point()?,
+        decode_point(before)?,
         encode_point()?,
     ])
 }
@@ -53,7 +54,7 @@ fn quantize() -> Result<Case, String> {
     )
 }
 
-fn decode_point() -> Result<Case, String> {
+fn decode_point(before: Option<&Before>) -> Result<Case, String> {
     let mut random = Random::new();
     let point = |_| {
         let layout = random.layout();
@@ -63,6 +64,13 @@ fn decode_point() -> Result<Case, String> {
     let points: Vec<(Numbers, [u8; LONGEST], usize)> = (0..MANY).map(point).collect();
     let (layout, bytes, length) = points[0];
     let refused = [([0; 8], bytes, length), (layout, bytes, length - 1)];
+    let before = before.and_then(Before::decode_point).map(|job| {
+        call_side(
+            move |(layout, bytes, length), point| job(*layout, &bytes[..*length], point),
+            points.clone(),
+            [0.0; 3],
+        )
+    });
     Case::calls(
         label("decode_point", "one point", "any layouts"),
         points,
@@ -76,7 +84,8 @@ fn decode_point() -> Result<Case, String> {
                 plain::lines::decode_point(*layout, &bytes[..*length], point)
             },
         ],
-    )
+    )?
+    .beside(before)
 }
 
 fn encode_point() -> Result<Case, String> {

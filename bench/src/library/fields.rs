@@ -1,11 +1,11 @@
-//! One channel's field.
+//! The field of one channel.
 
 use imurraqi::ffi;
 
 use crate::plain::layout::Numbers;
 
 pub fn field_bytes(layout: Numbers, channel: u8, first: &mut u8) -> i64 {
-    // SAFETY: the pointers are to eight bytes and to one that nothing else uses.
+    // SAFETY: the pointers are to eight bytes and to one, which nothing else uses.
     unsafe { ffi::imurraqi_field_bytes(&layout, channel, first) }
 }
 

@@ -1,40 +1,74 @@
-//! One channel's field in plain Rust.
+//! The bytes that hold the code of one channel, and the code, in plain Rust.
 
-use super::layout::{valid, Numbers};
+use super::layout::{self, Layout, Numbers};
 use super::refusal::{LENGTH, OUTSIDE};
 
+/// Where in a point the code of a channel is.
+#[derive(Clone, Copy)]
+pub struct Field {
+    /// The first of its bytes.
+    pub first: usize,
+    /// One to three bytes.
+    pub count: usize,
+    /// The first of its bits, in that byte.
+    from: u32,
+    greatest: u32,
+}
+
 pub fn field_bytes(layout: Numbers, channel: u8, first: &mut u8) -> i64 {
-    let Some(offset) = offset(layout, channel) else {
+    let Some(field) = field(layout, channel) else {
         return OUTSIDE;
     };
-    *first = offset / 8;
-    count(layout, offset) as i64
+    *first = field.first as u8;
+    field.count as i64
 }
 
 pub fn field_code(layout: Numbers, channel: u8, bytes: &[u8]) -> i64 {
-    let Some(offset) = offset(layout, channel) else {
+    let Some(field) = field(layout, channel) else {
         return OUTSIDE;
     };
-    if bytes.len() != count(layout, offset) {
+    if bytes.len() != field.count {
         return LENGTH;
     }
-    let number = match *bytes {
-        [low] => u32::from_le_bytes([low, 0, 0, 0]),
-        [low, high] => u32::from_le_bytes([low, high, 0, 0]),
-        [low, middle, high] => u32::from_le_bytes([low, middle, high, 0]),
-        _ => unreachable!("a field is in one to three bytes"),
-    };
-    let [_, _, _, depth, ..] = layout;
-    i64::from(number >> (offset % 8) & ((1 << depth) - 1))
+    field.code(bytes).into()
 }
 
-/// Where a field begins, of a valid layout.
-fn offset(layout: Numbers, channel: u8) -> Option<u8> {
-    let [_, _, _, _, _, offsets @ ..] = layout;
-    let offset = offsets.get(usize::from(channel)).copied();
-    offset.filter(|_| valid(layout))
+fn field(numbers: Numbers, channel: u8) -> Option<Field> {
+    let [_, _, _, depth, _, offsets @ ..] = numbers;
+    let offset = *offsets.get(usize::from(channel))?;
+    layout::valid(numbers).then(|| Field::new(depth.into(), offset.into()))
 }
 
-fn count([_, _, _, depth, ..]: Numbers, offset: u8) -> usize {
-    usize::from(offset % 8 + depth).div_ceil(8)
+// Inlined early, so that the loops of lines are seen as they are.
+impl Layout {
+    #[inline]
+    pub fn field(self, channel: usize) -> Field {
+        Field::new(self.depth, self.offsets[channel])
+    }
+}
+
+impl Field {
+    #[inline]
+    fn new(depth: u32, offset: u32) -> Field {
+        let (first, last) = (offset / 8, (offset + depth - 1) / 8);
+        Field {
+            first: first as usize,
+            count: (last - first + 1) as usize,
+            from: offset % 8,
+            greatest: (1 << depth) - 1,
+        }
+    }
+
+    /// The code in the bytes of the field.
+    #[inline]
+    pub fn code(self, bytes: &[u8]) -> u32 {
+        let together = match *bytes {
+            // All of its bits.
+            [only] => return only.into(),
+            [first, second] => u16::from_le_bytes([first, second]).into(),
+            [first, second, third] => u32::from_le_bytes([first, second, third, 0]),
+            _ => 0,
+        };
+        together >> self.from & self.greatest
+    }
 }

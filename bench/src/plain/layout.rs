@@ -43,6 +43,8 @@ pub fn valid(numbers: Numbers) -> bool {
 }
 
 impl Layout {
+    /// Inlined, so that nothing is worked out that a job does not use.
+    #[inline]
     pub fn new(numbers: Numbers) -> Option<Layout> {
         let [model, _, range, depth, bytes, first, second, third] = numbers;
         valid(numbers).then(|| {
@@ -55,10 +57,6 @@ impl Layout {
                 scales: [brightness, difference, difference],
             }
         })
-    }
-
-    pub fn greatest_code(self) -> u64 {
-        (1 << self.depth) - 1
     }
 
     /// The count of points, if the two lengths of a line fit together.

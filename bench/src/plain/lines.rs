@@ -1,7 +1,9 @@
 //! Lines and points in plain Rust, of the same shape as the library: the layout and
-//! the lengths are looked at once, codes and floats are checked in a pass of
-//! their own without an early exit, and each size of point has its own loop.
+//! the lengths are looked at once, and codes and floats are checked in a pass of
+//! their own without an early exit. Codes are read from the bytes of their fields
+//! alone. For packing and encoding each size of point has its own loop.
 
+use super::fields::Field;
 use super::layout::{Layout, Numbers, Scale};
 use super::refusal::{CODE_TOO_HIGH, LENGTH, NOT_A_NUMBER, OUTSIDE};
 
@@ -14,14 +16,7 @@ pub fn unpack_line(layout: Numbers, packed: &[u8], codes: &mut [u16]) -> i64 {
     let Some(count) = layout.count(packed.len(), codes.len()) else {
         return LENGTH;
     };
-    match layout.bytes {
-        3 => unpack::<3>(layout, packed, codes),
-        4 => unpack::<4>(layout, packed, codes),
-        5 => unpack::<5>(layout, packed, codes),
-        6 => unpack::<6>(layout, packed, codes),
-        7 => unpack::<7>(layout, packed, codes),
-        _ => unpack::<8>(layout, packed, codes),
-    }
+    read(layout, packed, codes, |_, code| code as u16);
     count as i64
 }
 
@@ -103,14 +98,10 @@ pub fn encode_point(layout: Numbers, point: [f32; 3], packed: &mut [u8]) -> i64 
 }
 
 fn decode_all(layout: Layout, packed: &[u8], values: &mut [f32]) {
-    match layout.bytes {
-        3 => decode::<3>(layout, packed, values),
-        4 => decode::<4>(layout, packed, values),
-        5 => decode::<5>(layout, packed, values),
-        6 => decode::<6>(layout, packed, values),
-        7 => decode::<7>(layout, packed, values),
-        _ => decode::<8>(layout, packed, values),
-    }
+    let scales = layout.scales;
+    read(layout, packed, values, |channel, code| {
+        value(scales[channel], code)
+    });
 }
 
 fn encode_all(layout: Layout, values: &[f32], packed: &mut [u8]) {
@@ -124,14 +115,55 @@ fn encode_all(layout: Layout, values: &[f32], packed: &mut [u8]) {
     }
 }
 
-fn unpack<const BYTES: usize>(layout: Layout, packed: &[u8], codes: &mut [u16]) {
-    let [first, second, third] = layout.offsets;
-    let greatest = layout.greatest_code();
-    for (bytes, codes) in packed.chunks_exact(BYTES).zip(codes.chunks_exact_mut(3)) {
-        let point = load::<BYTES>(bytes);
-        codes[0] = (point >> first & greatest) as u16;
-        codes[1] = (point >> second & greatest) as u16;
-        codes[2] = (point >> third & greatest) as u16;
+/// Makes something of every code: in one pass where the fields of the three channels
+/// have the same count of bytes, else in a pass for each channel.
+fn read<O>(layout: Layout, packed: &[u8], out: &mut [O], made: impl Fn(usize, u32) -> O) {
+    let [first, second, third] = [layout.field(0), layout.field(1), layout.field(2)];
+    if first.count == second.count && first.count == third.count {
+        let fields = [(0, first), (1, second), (2, third)];
+        read_channels(layout, fields, packed, out, made);
+    } else {
+        for (channel, field) in [first, second, third].into_iter().enumerate() {
+            read_channels(layout, [(channel, field)], packed, out, &made);
+        }
+    }
+}
+
+/// Channels whose fields have the same count of bytes.
+fn read_channels<const CHANNELS: usize, O>(
+    layout: Layout,
+    fields: [(usize, Field); CHANNELS],
+    packed: &[u8],
+    out: &mut [O],
+    made: impl Fn(usize, u32) -> O,
+) {
+    // Not `layout.bytes`, nor with `div_ceil`, which comes to the same: a bare number
+    // the compiler may take for 1, and leave the true step to a loop that does one
+    // point at a time.
+    let step = layout.bytes / 2 + (layout.bytes + 1) / 2;
+    match fields[0].1.count {
+        1 => read_fields::<1, CHANNELS, O>(step, fields, packed, out, made),
+        2 => read_fields::<2, CHANNELS, O>(step, fields, packed, out, made),
+        _ => read_fields::<3, CHANNELS, O>(step, fields, packed, out, made),
+    }
+}
+
+fn read_fields<const BYTES: usize, const CHANNELS: usize, O>(
+    step: usize,
+    fields: [(usize, Field); CHANNELS],
+    packed: &[u8],
+    out: &mut [O],
+    made: impl Fn(usize, u32) -> O,
+) {
+    // So that no place is looked at again in the loop.
+    for (channel, field) in fields {
+        assert!(channel < 3 && field.first < 8 && field.first + BYTES <= step);
+    }
+    for (point, out) in packed.chunks_exact(step).zip(out.chunks_exact_mut(3)) {
+        for &(channel, field) in &fields {
+            let bytes = &point[field.first..field.first + BYTES];
+            out[channel] = made(channel, field.code(bytes));
+        }
     }
 }
 
@@ -145,19 +177,8 @@ fn pack<const BYTES: usize>(layout: Layout, codes: &[u16], packed: &mut [u8]) {
     }
 }
 
-fn decode<const BYTES: usize>(layout: Layout, packed: &[u8], values: &mut [f32]) {
-    let [first, second, third] = layout.offsets;
-    let greatest = layout.greatest_code();
-    for (bytes, values) in packed.chunks_exact(BYTES).zip(values.chunks_exact_mut(3)) {
-        let point = load::<BYTES>(bytes);
-        values[0] = value(layout.scales[0], point >> first & greatest);
-        values[1] = value(layout.scales[1], point >> second & greatest);
-        values[2] = value(layout.scales[2], point >> third & greatest);
-    }
-}
-
 /// The float of a code: one division of whole numbers that floats hold.
-pub fn value(scale: Scale, code: u64) -> f32 {
+pub fn value(scale: Scale, code: u32) -> f32 {
     (code as i32 - scale.base as i32) as f32 / scale.span as f32
 }
 
@@ -181,12 +202,6 @@ pub fn code(scale: Scale, value: f32) -> u64 {
 /// The bits of a float without its sign.
 fn magnitude(value: f32) -> u32 {
     value.to_bits() & !(1 << 31)
-}
-
-fn load<const BYTES: usize>(bytes: &[u8]) -> u64 {
-    let mut all = [0; 8];
-    all[..BYTES].copy_from_slice(&bytes[..BYTES]);
-    u64::from_le_bytes(all)
 }
 
 fn store<const BYTES: usize>(bytes: &mut [u8], point: u64) {
