@@ -3,3 +3,4 @@ pub mod Facts
 pub mod Read
 pub mod Line
 pub mod Claims
+mod Examples
