@@ -22,7 +22,7 @@ use Rattle.field.proofs.Facts.{placed}
 module _ (f : Field) where
   pub read-none : (bs : List ℕ) → length bs ≡ 0 → 0 ≡ readCode f bs
   unfolding readCode little
-  read-none [] e = sym (ap (λ (m : ℕ). m % 2 ^ (f .bits % 16)) (zero-div (2 ^ (f .from % 8))) ∙ zero-mod (2 ^ (f .bits % 16)))
+  read-none [] e = sym (ap (λ (m : ℕ). m % 2 ^ (f .bits % 16)) (zero-div (2 ^ (f .from % 32))) ∙ zero-mod (2 ^ (f .bits % 16)))
   read-none (b ∷ bs) e = absurd (omega arith)
 
   pub read-one : (bs : List ℕ) → length bs ≡ 1 → getD bs 0 0 % 256 ≡ readCode f bs
@@ -32,20 +32,20 @@ module _ (f : Field) where
   read-one (b ∷ c ∷ bs) e = absurd (omega arith)
 
   -- the numbers of two bytes and of three
-  pub read-two : (bs : List ℕ) → length bs ≡ 2 → bits (f .bits % 16) (f .from % 8) (getD bs 0 0 + getD bs 1 0 * 256) ≡ readCode f bs
+  pub read-two : (bs : List ℕ) → length bs ≡ 2 → bits (f .bits % 16) (f .from % 32) (getD bs 0 0 + getD bs 1 0 * 256) ≡ readCode f bs
   unfolding readCode little
   read-two [] e = absurd (omega arith)
   read-two (b ∷ []) e = absurd (omega arith)
-  read-two (b ∷ c ∷ []) e = ap (bits (f .bits % 16) (f .from % 8)) (omega arith)
+  read-two (b ∷ c ∷ []) e = ap (bits (f .bits % 16) (f .from % 32)) (omega arith)
   read-two (b ∷ c ∷ d ∷ bs) e = absurd (omega arith)
 
   pub read-three : (bs : List ℕ) → (length bs ≡ 0 → ⊥) → (length bs ≡ 1 → ⊥) → (length bs ≡ 2 → ⊥)
-      → bits (f .bits % 16) (f .from % 8) (getD bs 0 0 + getD bs 1 0 * 256 + getD bs 2 0 * 65536) ≡ readCode f bs
+      → bits (f .bits % 16) (f .from % 32) (getD bs 0 0 + getD bs 1 0 * 256 + getD bs 2 0 * 65536) ≡ readCode f bs
   unfolding readCode little
   read-three [] a b c = absurd (a refl)
   read-three (x ∷ []) a b c = absurd (b refl)
   read-three (x ∷ y ∷ []) a b c = absurd (c refl)
-  read-three (x ∷ y ∷ z ∷ bs) a b c = sym (pass _ (ne-eqb (length (x ∷ y ∷ z ∷ bs)) 1 b) (ap (bits (f .bits % 16) (f .from % 8)) (omega arith)))
+  read-three (x ∷ y ∷ z ∷ bs) a b c = sym (pass _ (ne-eqb (length (x ∷ y ∷ z ∷ bs)) 1 b) (ap (bits (f .bits % 16) (f .from % 32)) (omega arith)))
 
 -- in a layout's field a single byte is a whole field, and three are all that there are
 pub read-is : (l : Layout) (channel : ℕ) (bs : List ℕ) → validLayout l ≡ true → length bs ≡ fieldOf l channel .count → readCode (fieldOf l channel) bs ≡ fieldCode (fieldOf l channel) bs
@@ -62,6 +62,6 @@ read-is l channel bs ok e = go (eqb (length bs) 1) refl
     go false q =
         let p = placed l channel ok in
         let n : l .depth % 16 ≡ l .depth = omega (arith, p .bits-most) in
-        let from : fieldOf l channel .from % 8 ≡ fieldOf l channel .from = omega (arith, p .from-less) in
+        let from : fieldOf l channel .from % 32 ≡ fieldOf l channel .from = omega (arith, p .from-less) in
         let few : length bs ≤ 3 = omega (arith, p .bits-most, p .from-less, p .tight, e) in
         pass _ q (ap₂ (λ (a b : ℕ). bits a b (little (take 3 bs))) n from ∙ ap (fieldCode (fieldOf l channel)) (take-all 3 bs few))

@@ -73,11 +73,12 @@ impl Field {
         Field::at(offset_of(layout, channel), layout.depth)
     }
 
-    // The field in a number of two or three bytes.
+    // The field in a number of two or three bytes. (The remainders only make the shifts fit, whatever the numbers are. By 8 in
+    // place of 32 the compiler would know the shift to be small, and work in 16 bits, where a float takes a step more.)
     fn cut(self, number: u32) -> u16
-        ensures { λ r. ⌜ r ≡ bits (self .bits % 16) (self .from % 8) number ⌝ }
+        ensures { λ r. ⌜ r ≡ bits (self .bits % 16) (self .from % 32) number ⌝ }
     {
-        let from = (self.from % 8) as u32;
+        let from = (self.from % 32) as u32;
         let bits = (self.bits % 16) as u32;
         ((number >> from) & ((1 << bits) - 1)) as u16
     }

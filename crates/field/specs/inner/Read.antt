@@ -12,7 +12,7 @@ use Rattle.field.specs.Field.{fieldOf}
 
 -- by any numbers of a field and in any bytes: one byte is the code itself, and of more the first three are looked at
 unfoldable pub readCode : Field → List ℕ → ℕ
-readCode f bytes = cond (eqb (length bytes) 1) (bits 8 0 (little bytes)) (bits (f .bits % 16) (f .from % 8) (little (take 3 bytes)))
+readCode f bytes = cond (eqb (length bytes) 1) (bits 8 0 (little bytes)) (bits (f .bits % 16) (f .from % 32) (little (take 3 bytes)))
 
 -- channel j of a point that begins at byte `at` of the line s
 abbrev pub readAt : Layout → List ℕ → ℕ → ℕ → ℕ

@@ -77,7 +77,7 @@ returns-2 c =
     let first = c .before .before .before in
     let a = first .before .before .before .before .before .args in
     c .cut .ensures
-    ∙ ap₂ (λ (x y : ℕ). bits (a .self .bits % 16) (a .self .from % 8) (x + y * 256)) (first .wide .ensures .0) (c .before .wide2 .ensures .0)
+    ∙ ap₂ (λ (x y : ℕ). bits (a .self .bits % 16) (a .self .from % 32) (x + y * 256)) (first .wide .ensures .0) (c .before .wide2 .ensures .0)
     ∙ read-two (a .self) (a .bytes .now) (first .before .before .if2 .taken)
 
 returns-3 : tie.Need-returns-3
@@ -92,7 +92,7 @@ returns-4 c =
     let none = first .before .before in
     let a = none .before .before .before .before .args in
     c .cut2 .ensures
-    ∙ ap₂ (λ (x y : ℕ). bits (a .self .bits % 16) (a .self .from % 8) (x + y * 65536))
+    ∙ ap₂ (λ (x y : ℕ). bits (a .self .bits % 16) (a .self .from % 32) (x + y * 65536))
     (ap₂ (λ (x y : ℕ). x + y * 256) (first .wide3 .ensures .0) (second .wide4 .ensures .0)) (c .before .wide5 .ensures .0)
     ∙ read-three (a .self) (a .bytes .now) (none .if3 .left) (none .before .before .if1 .left) (none .before .if2 .left)
 

@@ -24,12 +24,12 @@ sub-result c = mask-fits 32 (c .before .before .args .self .bits % 16) (omega ar
 cast-result : tie.Need-cast-result
 cast-result c =
     let a = c .before .before .args in
-    record { fits = rw (masked 32 (a .self .bits % 16) (omega arith) (a .number) (a .self .from % 8)) (code-fits _ (a .self .bits % 16) (omega arith)) }
+    record { fits = rw (masked 32 (a .self .bits % 16) (omega arith) (a .number) (a .self .from % 32)) (code-fits _ (a .self .bits % 16) (omega arith)) }
 
 returns : tie.Need-returns
 returns c =
     let a = c .before .before .args in
-    masked 32 (a .self .bits % 16) (omega arith) (a .number) (a .self .from % 8)
+    masked 32 (a .self .bits % 16) (omega arith) (a .number) (a .self .from % 32)
 
 pub cut-spec : {M : Type 1} → statement M
 cut-spec = tie.close (tie.spec cast-from cast-bits shr-result shl-result sub-result cast-result returns)
