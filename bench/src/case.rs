@@ -38,6 +38,8 @@ pub struct Case {
     plain: Side,
     /// The library before, where it is given and has the entry.
     before: Option<Side>,
+    /// The same in lines of one point; none but for lines.
+    before_short: Option<Side>,
     /// The library at each of the lengths; none but for lines.
     lengths: Vec<Side>,
 }
@@ -86,6 +88,7 @@ impl Case {
             library: side(library, POINTS),
             plain: side(plain, POINTS),
             before: None,
+            before_short: None,
             lengths: LENGTHS.map(|length| side(library, length)).into(),
             label,
         })
@@ -114,6 +117,7 @@ impl Case {
             library,
             plain,
             before: None,
+            before_short: None,
             lengths: Vec::new(),
             label,
         })
@@ -132,6 +136,12 @@ impl Case {
         Ok(self)
     }
 
+    /// And beside it in lines of one point.
+    pub fn beside_short(mut self, before: Option<Side>) -> Case {
+        self.before_short = before;
+        self
+    }
+
     pub fn is_line(&self) -> bool {
         !self.lengths.is_empty()
     }
@@ -142,7 +152,8 @@ impl Case {
         let mut programs = vec![&mut self.library, &mut self.plain];
         programs.extend(&mut self.before);
         measure_in_turn(programs, round);
-        measure_in_turn(self.lengths.iter_mut().collect(), round);
+        let lengths = self.lengths.iter_mut();
+        measure_in_turn(lengths.chain(&mut self.before_short).collect(), round);
     }
 
     /// The library's nanoseconds a point or a call.
@@ -164,6 +175,12 @@ impl Case {
     pub fn before(&self) -> Option<f64> {
         let before = self.before.as_ref()?;
         Some(median(self.library.over(before)))
+    }
+
+    /// The same in lines of one point, the first of the lengths.
+    pub fn before_short(&self) -> Option<f64> {
+        let (library, before) = (self.lengths.first()?, self.before_short.as_ref()?);
+        Some(median(library.over(before)))
     }
 
     /// Nanoseconds a point at each of the lengths.

@@ -10,8 +10,8 @@ use crate::table::{MOST_APART, MOST_GROWTH};
 use crate::ROUNDS;
 
 const BEFORE: &str = "
-- *before*: how many times as long the library takes as it did in an earlier state, whose archive was measured in the same rounds;
-  again the median of the rounds' ratios. Empty where an entry is not compared.";
+- *before*, *before at 1*: how many times as long the library takes as it did in an earlier state, whose archive was measured in the
+  same rounds, along a whole line and in lines of one point; again medians of the rounds' ratios. Empty where an entry is not compared.";
 
 pub fn text(load: &str, table: &str, verdict: &str, before: bool) -> String {
     let told = |name| env::var(name).unwrap_or_else(|_| "unknown".to_string());

@@ -11,13 +11,13 @@ pub const MOST_GROWTH: f64 = 1.1;
 /// 1.4 to 2.5 times as long, and less only where all fields have three bytes.
 pub const MOST_APART: f64 = 1.35;
 
-const HEAD: [&str; 12] = [
-    "entry", "setting", "input", "a", "library", "plain", "ratio", "aim", BEFORE, "lengths",
-    "growth", "stack",
+const HEAD: [&str; 13] = [
+    "entry", "setting", "input", "a", "library", "plain", "ratio", "aim", BEFORE[0], BEFORE[1],
+    "lengths", "growth", "stack",
 ];
 
-/// A column that is shown only where there is an earlier library.
-const BEFORE: &str = "before";
+/// Columns that are shown only where there is an earlier library.
+const BEFORE: [&str; 2] = ["before", "before at 1"];
 
 /// The first columns are words, the others numbers.
 const WORDS: usize = 4;
@@ -108,7 +108,7 @@ impl Row<'_> {
             aim(case.label.entry).map_or(String::new(), |aim| aim.to_string()),
         ];
         if before {
-            cells.push(times(case.before()));
+            cells.extend([case.before(), case.before_short()].map(times));
         }
         let mut lengths: Vec<String> = case.lengths().into_iter().map(nanoseconds).collect();
         lengths.resize(LENGTHS.len(), String::new());
@@ -189,7 +189,7 @@ fn rule(widths: &[usize]) -> String {
 fn head(before: bool) -> Vec<String> {
     let mut head = Vec::new();
     for name in HEAD {
-        if name == BEFORE && !before {
+        if BEFORE.contains(&name) && !before {
             continue;
         }
         if name == "lengths" {

@@ -1,9 +1,11 @@
 //! Lines in four layouts, smooth and random, decoding and unpacking in two more, and
 //! decoding and encoding in the other ranges.
 
+use std::rc::Rc;
+
 use super::label;
 use crate::before::{Before, LineBefore};
-use crate::case::{line_side, Case, Label, Line, LineJob};
+use crate::case::{line_side, Case, Label, Line, LineJob, LENGTHS};
 use crate::inputs::{self, packed_length, Forms, POINTS};
 use crate::library::lines as library;
 use crate::plain::layout::Numbers;
@@ -163,6 +165,13 @@ where
         line.elements[elements.len() - 1] = element;
         refused.push(line);
     }
-    let before = before.map(|job| line_side(job, line.clone(), POINTS));
-    Case::line(label, line, &refused, jobs)?.beside(before)
+    let before = before.map(Rc::new);
+    let side = |length| {
+        let job = before.clone()?;
+        let job = move |numbers, given: &[I], made: &mut [O]| job(numbers, given, made);
+        Some(line_side(job, line.clone(), length))
+    };
+    let (whole, short) = (side(POINTS), side(LENGTHS[0]));
+    let case = Case::line(label, line, &refused, jobs)?.beside(whole)?;
+    Ok(case.beside_short(short))
 }
