@@ -3,14 +3,13 @@ use mathlib.Core.Path.{_≡_, refl, sym, ap, ap₂, _∙_}
 use mathlib.Core.Bool.{true}
 use mathlib.Core.List.{List}
 use Prim.Native.Nat.{ℕ, zero, suc, _+_, _*_, _/_, _%_, _≤_, _<_}
-use native.Mathlib.Nat.{mul-comm, mul-div-cancel}
 use native.Mathlib.Omega.{arith}
 use lib.Ieee.{Float, nan}
 use lib.ListN.{length}
 use Rattle.lists.specs.Lists.{tabulate}
 use Rattle.lists.specs.Bytes.{areBytes}
 use Rattle.lists.specs.inner.Stores.{written}
-use Rattle.lists.proofs.Filled.{Filled, filled-more, filled-all}
+use Rattle.lists.proofs.Filled.{Filled, filled-more}
 use Rattle.layout.specs.declared.Layout.{Layout}
 use Rattle.layout.specs.Layout.{validLayout}
 use Rattle.layout.proofs.Facts.{valid-says}
@@ -20,6 +19,7 @@ use Rattle.scales.specs.Value.{valueOf}
 use Rattle.scales.specs.Channel.{scaleAt}
 use Rattle.scales.specs.inner.Fitted.{Fitted}
 use Rattle.line.specs.Line.{codeAt}
+use Rattle.line.proofs.Points.{point-count, filled-points}
 use Rattle.field.proofs.Line.{code-read, point-reaches}
 use Rattle.decoding.specs.Decode.{valueAt, valuesOf}
 use Rattle.decoding.specs.inner.Read.{readValue, scaleIn}
@@ -49,10 +49,8 @@ module _ (l : Layout) (s : List ℕ) (n : ℕ) (ok : validLayout l ≡ true) (wh
   -- the line's points are n
   pub values-whole : tabulate (3 * n) (valueAt l s) ≡ valuesOf l s
   unfolding valuesOf
-  values-whole =
-      let B : 0 < l .bytes = omega (arith, valid-says l ok .bytes-least) in
-      ap (λ (m : ℕ). tabulate (3 * m) (valueAt l s)) (sym (mul-div-cancel n B) ∙ ap (λ (m : ℕ). m / l .bytes) (mul-comm n (l .bytes) ∙ sym whole))
+  values-whole = ap (λ (m : ℕ). tabulate (3 * m) (valueAt l s)) (sym (point-count l s n (omega (arith, valid-says l ok .bytes-least)) whole))
 
   -- all turns
   pub values-all : (out xs : List Float) (i : ℕ) → length out ≡ 3 * n → n ≤ i → i ≤ n → Filled out (valueAt l s) (3 * i) xs → xs ≡ valuesOf l s
-  values-all out xs i long lo hi f = filled-all nan (omega arith) f ∙ ap (λ (m : ℕ). tabulate (3 * m) (valueAt l s)) (omega arith) ∙ values-whole
+  values-all out xs i long lo hi f = filled-points nan long lo hi f ∙ values-whole

@@ -17,7 +17,8 @@ use layout::Layout;
 use scales::Scale;
 use scales::Scales;
 
-// The value of a field whose bytes begin at byte `at` of the line.
+// The value of a field whose bytes begin at byte `at` of the line. (`count` is the field's own, and stands beside it so that one
+// choice by it can do for three fields.)
 fn value_at(scale: Scale, field: Field, packed: &[u8], at: usize, count: usize) -> f32
     requires { ⌜ at + count ≤ length (now packed) ⌝ }
     ensures { λ r. ⌜ r ≡ valueOf scale (readCode field (take count (drop at (now (packed .entry))))) ⌝ }
@@ -56,7 +57,7 @@ fn points(layout: Layout, scales: Scales, packed: &[u8], out: &mut [f32], n: usi
 }
 
 // The values of one channel of n points.
-fn channel(layout: Layout, channel: u8, scale: Scale, packed: &[u8], out: &mut [f32], n: usize)
+fn one_channel(layout: Layout, channel: u8, scale: Scale, packed: &[u8], out: &mut [f32], n: usize)
     requires { ⌜ (validLayout layout ≡ true) × (channel < 3) × (scale ≡ scaleAt layout channel) ⌝ }
     requires { ⌜ (length (now packed) ≡ layout .bytes * n) × (length (now out) ≡ 3 * n) ⌝ }
     ensures { λ _. ⌜ now (out .exit) ≡ channelWritten (now (out .entry)) (valueAt layout (now (packed .entry))) channel n ⌝ }
@@ -96,7 +97,7 @@ fn channels(layout: Layout, scales: Scales, packed: &[u8], out: &mut [f32], n: u
 {
     let mut k = 0;
     while k < 3 {
-        channel(layout, k, scale_of(scales, k), packed, out, n);
+        one_channel(layout, k, scale_of(scales, k), packed, out, n);
         k += 1;
     }
 }

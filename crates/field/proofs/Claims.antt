@@ -1,22 +1,22 @@
 -- The claims of specs/Claims.antt. Assumes nothing.
-use mathlib.Core.Path.{_≡_, ap, ap₂, _∙_}
-use mathlib.Core.Bool.{true, not, _&&_}
+use mathlib.Core.Path.{_≡_, refl, sym, ap, ap₂, _∙_, subst}
+use mathlib.Core.Bool.{Bool, true, false, not, _&&_}
 use mathlib.Core.List.{List}
-use Prim.Native.Nat.{ℕ, _+_, _*_, _^_, _≤_, _<_, min}
+use Prim.Native.Nat.{ℕ, _*_, min, _≤_}
 use native.Mathlib.Nat.{mod-lt, mul-comm}
 use native.Mathlib.Omega.{arith}
 use borrow.Author.Tests.{eq-eqb, lt-ltb}
-use lib.Dec.{ltb}
+use lib.Dec.{eqb, ltb}
 use lib.ListN.{length, take, drop, length-take, length-drop}
 use lib.Pow.{pow-pos, le-ones}
-use Rattle.lists.specs.Bytes.{areBytes, little}
 use Rattle.lists.proofs.Every.{every-drop, every-take}
 use Rattle.lists.proofs.Tests.{and-left, stop, pass}
 use Rattle.layout.specs.declared.Layout.{Layout}
-use Rattle.layout.specs.Layout.{channelKnown, validLayout}
+use Rattle.layout.specs.Layout.{topOf, channelKnown, validLayout}
 use Rattle.line.specs.Point.{pointOf}
 use Rattle.line.proofs.Points.{point-inside, code-at}
-use Rattle.field.specs.declared.FieldCode.the-variants.{Code}
+use Rattle.field.specs.declared.FieldCode.{FieldCode}
+use Rattle.field.specs.declared.FieldCode.the-variants.{Code, Refused}
 use Rattle.field.specs.Field.{fieldOf, fieldBytes}
 use Rattle.field.specs.Answer.{fieldKnown, codeAnswer}
 use Rattle.field.specs.Claims.{HoldsInOneToThreeBytes, HoldsAllAndOnlyTheField, ReadsTheFieldOfThePoint, ReadsEachCodeOfALine, RefusesOtherLengths, ReadsCodesOfTheDepth}
@@ -58,5 +58,19 @@ pub refuses-other-lengths : RefusesOtherLengths
 unfolding codeAnswer
 refuses-other-lengths l channel bytes k e = pass _ (ap not k) (stop _ (ap not e))
 
+-- the code of an answer, if it is one
+abbrev Within : ℕ → FieldCode → Type 0
+Within top (Code c) = c ≤ top
+Within top (Refused k) = Unit
+
+within : (l : Layout) (channel : ℕ) (bytes : List ℕ) → Within (topOf (l .depth)) (codeAnswer l channel bytes)
+unfolding codeAnswer
+within l channel bytes = go (not (fieldKnown l channel)) (not (eqb (length bytes) (fieldOf l channel .count))) refl refl
+  where
+    go : (s t : Bool) → not (fieldKnown l channel) ≡ s → not (eqb (length bytes) (fieldOf l channel .count)) ≡ t → Within (topOf (l .depth)) (codeAnswer l channel bytes)
+    go true t p q = subst (Within (topOf (l .depth))) (sym (stop _ p)) tt
+    go false true p q = subst (Within (topOf (l .depth))) (sym (pass _ p (stop _ q))) tt
+    go false false p q = subst (Within (topOf (l .depth))) (sym (pass _ p (pass _ q refl))) (le-ones (l .depth) (mod-lt _ (pow-pos (l .depth))))
+
 pub reads-codes-of-the-depth : ReadsCodesOfTheDepth
-reads-codes-of-the-depth l channel bytes = le-ones (l .depth) (mod-lt _ (pow-pos (l .depth)))
+reads-codes-of-the-depth l channel c bytes e = subst (Within (topOf (l .depth))) e (within l channel bytes)

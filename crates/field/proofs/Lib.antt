@@ -1,4 +1,5 @@
 mod Bits
+mod Masks
 pub mod Facts
 pub mod Read
 pub mod Line

@@ -10,12 +10,12 @@ use borrow.Author.Tests.{eqb-true}
 use lib.Dec.{eqb, ltb}
 use lib.ListN.{length, take, drop, length-take, length-drop}
 use lib.Seq.{drop-drop}
-use Rattle.lists.specs.Bytes.{areBytes, little}
+use Rattle.lists.specs.Bytes.{areBytes}
 use Rattle.lists.proofs.Every.{every-drop}
 use Rattle.lists.proofs.Tests.{and-left, and-right}
 use Rattle.layout.specs.declared.Layout.{Layout}
 use Rattle.layout.specs.Layout.{offsetOf, validLayout}
-use Rattle.line.specs.Point.{bits, pointOf}
+use Rattle.line.specs.Point.{pointOf}
 use Rattle.line.specs.Line.{codeAt}
 use Rattle.line.proofs.Points.{point-inside, code-at}
 use Rattle.field.specs.declared.field.Field.{Field}

@@ -13,7 +13,7 @@ use Rattle.field.specs.declared.FieldBytes.{FieldBytes}
 use Rattle.field.specs.declared.FieldBytes.the-variants.{Held, Refused as NoBytes}
 use Rattle.field.specs.Field.{fieldOf, fieldCode}
 
--- the layout has such a channel
+-- the paper has the layout, and a layout such a channel
 abbrev pub fieldKnown : Layout → ℕ → Bool
 fieldKnown l channel = validLayout l && channelKnown channel
 

@@ -12,7 +12,7 @@ use Rattle.refusal.specs.Refusal.{wrongLineOrOutput}
 use Rattle.line.specs.Point.{bits}
 use Rattle.line.specs.Line.{codeAt, PackedLine}
 use Rattle.field.specs.declared.FieldCode.the-variants.{Code, Refused}
-use Rattle.field.specs.Field.{fieldOf, fieldBytes, fieldCode}
+use Rattle.field.specs.Field.{fieldOf, fieldBytes}
 use Rattle.field.specs.Answer.{fieldKnown, codeAnswer}
 
 -- one to three bytes hold a field, all of them in the point
@@ -22,7 +22,7 @@ HoldsInOneToThreeBytes =
     → let f = fieldOf l channel in
     (1 ≤ f .count) × (f .count ≤ 3) × (f .first + f .count ≤ l .bytes)
 
--- all bits of the field lie in them, and its first bit in the first and its last bit in the last: no byte could be left out, and none is needed more
+-- all bits of the field lie in them, its first bit in the first and its last bit in the last: no byte could be left out, and no byte more is needed (there is at least one, so that nothing is taken from 0)
 abbrev pub HoldsAllAndOnlyTheField : Type 0
 HoldsAllAndOnlyTheField =
     (l : Layout) (channel : ℕ) → fieldKnown l channel ≡ true
@@ -49,6 +49,6 @@ RefusesOtherLengths =
     (l : Layout) (channel : ℕ) (bytes : List ℕ) → fieldKnown l channel ≡ true → eqb (length bytes) (fieldOf l channel .count) ≡ false
     → codeAnswer l channel bytes ≡ Refused wrongLineOrOutput
 
--- and no code is above the highest of n bits
+-- and no code that is answered is above the highest of n bits
 abbrev pub ReadsCodesOfTheDepth : Type 0
-ReadsCodesOfTheDepth = (l : Layout) (channel : ℕ) (bytes : List ℕ) → fieldCode (fieldOf l channel) bytes ≤ topOf (l .depth)
+ReadsCodesOfTheDepth = (l : Layout) (channel c : ℕ) (bytes : List ℕ) → codeAnswer l channel bytes ≡ Code c → c ≤ topOf (l .depth)

@@ -43,7 +43,7 @@ fn wide(byte: u8) -> u32
     byte as u32
 }
 
-// A byte that is a whole field.
+// A byte that is a whole field: its bits 0 to 7.
 fn whole(byte: u8) -> u16
     ensures { λ r. ⌜ r ≡ byte % 256 ⌝ }
 {
@@ -65,8 +65,8 @@ impl Field {
         }
     }
 
-    // The field of a channel. (Whether the paper has the layout, and the layout such a channel, is asked by `valid` and
-    // `channel_known`.)
+    // The field of a channel; any channel but 0 and 1 is taken for 2. (Whether the paper has the layout, and a layout such a
+    // channel, is asked by `valid` and `channel_known`.)
     pub fn of(layout: Layout, channel: u8) -> Field
         ensures { λ r. ⌜ r ≡ fieldOf layout channel ⌝ }
     {
@@ -74,7 +74,7 @@ impl Field {
     }
 
     // The field in a number of two or three bytes. (The remainders only make the shifts fit, whatever the numbers are. By 8 in
-    // place of 32 the compiler would know the shift to be small, and work in 16 bits, where a float takes a step more.)
+    // place of 32 the compiler would know the shift to be small, and work in 16 bits, from which the way to a float is a step longer.)
     fn cut(self, number: u32) -> u16
         ensures { λ r. ⌜ r ≡ bits (self .bits % 16) (self .from % 32) number ⌝ }
     {

@@ -31,10 +31,10 @@ fn known(layout: Layout, channel: u8) -> bool
 pub fn field_code(layout: Layout, channel: u8, bytes: &[u8]) -> FieldCode
     ensures { λ r. ⌜ r ≡ codeAnswer layout channel (now (bytes .entry)) ⌝ }
 {
-    let field = Field::of(layout, channel);
     if !known(layout, channel) {
         return FieldCode::Refused(refusal::OUTSIDE);
     }
+    let field = Field::of(layout, channel);
     if bytes.len() != field.count {
         return FieldCode::Refused(refusal::WRONG_LINE_OR_OUTPUT);
     }
@@ -45,11 +45,11 @@ pub fn field_code(layout: Layout, channel: u8, bytes: &[u8]) -> FieldCode
 pub fn field_bytes(layout: Layout, channel: u8) -> FieldBytes
     ensures { λ r. ⌜ r ≡ bytesAnswer layout channel ⌝ }
 {
-    let field = Field::of(layout, channel);
-    if !known(layout, channel) {
-        return FieldBytes::Refused(refusal::OUTSIDE);
+    if known(layout, channel) {
+        FieldBytes::Held(Field::of(layout, channel))
+    } else {
+        FieldBytes::Refused(refusal::OUTSIDE)
     }
-    FieldBytes::Held(field)
 }
 
 // Whether as many bytes hold each of the three fields, so that one choice does for all.

@@ -22,7 +22,7 @@ use Rattle.layout.proofs.Facts.{Valid, valid-says}
 use Rattle.line.specs.Point.{bits, pointOf, inPlace}
 use Rattle.line.specs.Line.{joined, codeAt, codesOf, byteAt, packedOf, codesWithin, PackedLine}
 use Rattle.line.proofs.Joins.{and-or, or-sum}
-use Rattle.line.proofs.Points.{code-at, point-inside}
+use Rattle.line.proofs.Points.{point-count, code-at, point-inside}
 use Rattle.scanline_laws.specs.Cleared.{usedBits, cleared}
 use Rattle.scanline_laws.proofs.Bits.{byte-and, field-ones}
 
@@ -37,17 +37,17 @@ module _ (l : Layout) (n : ℕ) (s : List ℕ) (p : PackedLine l n s) where
   pub bytes-pos : 0 < b
   bytes-pos = let r : Valid l = valid-says l (p .valid) in omega (arith, r .bytes-least)
 
-  pub point-count : length s / b ≡ n
-  point-count = ap (λ (m : ℕ). m / b) (p .points ∙ mul-comm b n) ∙ mul-div-cancel n bytes-pos
+  count : length s / b ≡ n
+  count = point-count l s n bytes-pos (p .points)
 
   pub length-codes : length (codesOf l s) ≡ 3 * n
   unfolding codesOf
-  length-codes = length-tabulate (3 * (length s / b)) (codeAt l s) ∙ ap (λ (m : ℕ). 3 * m) point-count
+  length-codes = length-tabulate (3 * (length s / b)) (codeAt l s) ∙ ap (λ (m : ℕ). 3 * m) count
 
   -- code 3 i + j of the line's codes
   code-is : (i j : ℕ) → j < 3 → i < n → getD (codesOf l s) (3 * i + j) 0 ≡ bits (l .depth) (offsetOf l j) (pointOf l s i)
   unfolding codesOf
-  code-is i j h k = getD-tabulate (3 * (length s / b)) (codeAt l s) (3 * i + j) 0 (omega (arith, point-count)) ∙ sym (code-at l s i j h)
+  code-is i j h k = getD-tabulate (3 * (length s / b)) (codeAt l s) (3 * i + j) 0 (omega (arith, count)) ∙ sym (code-at l s i j h)
 
   -- the three fields of v in their places are the `&` with the used bits
   fields-used : (v : ℕ) → inPlace l (bits (l .depth) (l .offset0) v) (bits (l .depth) (l .offset1) v) (bits (l .depth) (l .offset2) v) ≡ bitAnd v (usedBits l)

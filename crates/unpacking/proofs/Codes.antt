@@ -3,17 +3,17 @@ use mathlib.Core.Path.{_≡_, sym, ap, _∙_}
 use mathlib.Core.Bool.{true}
 use mathlib.Core.List.{List}
 use Prim.Native.Nat.{ℕ, _+_, _*_, _/_, _≤_, _<_}
-use native.Mathlib.Nat.{mul-comm, mul-div-cancel}
 use native.Mathlib.Omega.{arith}
 use lib.ListN.{length}
 use Rattle.lists.specs.Lists.{tabulate}
 use Rattle.lists.specs.Bytes.{areBytes}
 use Rattle.lists.specs.inner.Stores.{written}
-use Rattle.lists.proofs.Filled.{Filled, filled-more, filled-all}
+use Rattle.lists.proofs.Filled.{Filled, filled-more}
 use Rattle.layout.specs.declared.Layout.{Layout}
 use Rattle.layout.specs.Layout.{validLayout}
 use Rattle.layout.proofs.Facts.{valid-says}
 use Rattle.line.specs.Line.{codeAt, codesOf}
+use Rattle.line.proofs.Points.{point-count, filled-points}
 use Rattle.field.specs.inner.Read.{readAt}
 use Rattle.field.proofs.Line.{code-read, point-reaches}
 
@@ -28,10 +28,8 @@ module _ (l : Layout) (s : List ℕ) (n : ℕ) (ok : validLayout l ≡ true) (wh
   -- the line's points are n
   pub codes-whole : tabulate (3 * n) (codeAt l s) ≡ codesOf l s
   unfolding codesOf
-  codes-whole =
-      let B : 0 < l .bytes = omega (arith, valid-says l ok .bytes-least) in
-      ap (λ (m : ℕ). tabulate (3 * m) (codeAt l s)) (sym (mul-div-cancel n B) ∙ ap (λ (m : ℕ). m / l .bytes) (mul-comm n (l .bytes) ∙ sym whole))
+  codes-whole = ap (λ (m : ℕ). tabulate (3 * m) (codeAt l s)) (sym (point-count l s n (omega (arith, valid-says l ok .bytes-least)) whole))
 
   -- all turns
   pub codes-all : (out xs : List ℕ) (i : ℕ) → length out ≡ 3 * n → n ≤ i → i ≤ n → Filled out (codeAt l s) (3 * i) xs → xs ≡ codesOf l s
-  codes-all out xs i long lo hi f = filled-all 0 (omega arith) f ∙ ap (λ (m : ℕ). tabulate (3 * m) (codeAt l s)) (omega arith) ∙ codes-whole
+  codes-all out xs i long lo hi f = filled-points 0 long lo hi f ∙ codes-whole

@@ -11,7 +11,8 @@ ghost use Rattle.field.specs.inner.Read.{readCode, readAt, oneCount};
 use field::Field;
 use layout::Layout;
 
-// The code of a field whose bytes begin at byte `at` of the line.
+// The code of a field whose bytes begin at byte `at` of the line. (`count` is the field's own, and stands beside it so that one
+// choice by it can do for three fields.)
 fn code_at(field: Field, packed: &[u8], at: usize, count: usize) -> u16
     requires { ⌜ at + count ≤ length (now packed) ⌝ }
     ensures { λ r. ⌜ r ≡ readCode field (take count (drop at (now (packed .entry)))) ⌝ }
@@ -50,7 +51,7 @@ fn points(layout: Layout, packed: &[u8], codes: &mut [u16], n: usize)
 }
 
 // The codes of one channel of n points.
-fn channel(layout: Layout, channel: u8, packed: &[u8], codes: &mut [u16], n: usize)
+fn one_channel(layout: Layout, channel: u8, packed: &[u8], codes: &mut [u16], n: usize)
     requires { ⌜ (validLayout layout ≡ true) × (channel < 3) ⌝ }
     requires { ⌜ (length (now packed) ≡ layout .bytes * n) × (length (now codes) ≡ 3 * n) ⌝ }
     ensures { λ _. ⌜ now (codes .exit) ≡ channelWritten (now (codes .entry)) (codeAt layout (now (packed .entry))) channel n ⌝ }
@@ -76,7 +77,7 @@ fn channels(layout: Layout, packed: &[u8], codes: &mut [u16], n: usize)
 {
     let mut k = 0;
     while k < 3 {
-        channel(layout, k, packed, codes, n);
+        one_channel(layout, k, packed, codes, n);
         k += 1;
     }
 }

@@ -8,19 +8,21 @@ use Rattle.field.specs.Answer.{bytesAnswer}
 use Rattle.field.proofs.field_bytes.Statement.{statement}
 use Rattle.field.proofs.field_bytes.Tie as tie
 
-of-requires : tie.Need-of-requires
-of-requires c κs = search needs
-
 known-requires : tie.Need-known-requires
 known-requires c κs = search needs
 
+of-requires : tie.Need-of-requires
+of-requires c κs = search needs
+
 returns : tie.Need-returns
 unfolding bytesAnswer
-returns c = sym (stop _ (sym (ap not (c .before .known .ensures)) ∙ c .if1 .taken))
+returns c =
+    let k = c .before in
+    sym (pass _ (ap not (sym (k .before .known .ensures) ∙ k .if1 .taken)) (ap Held (sym (c .of .ensures))))
 
 returns-2 : tie.Need-returns-2
 unfolding bytesAnswer
-returns-2 c = sym (pass _ (sym (ap not (c .before .known .ensures)) ∙ c .if1 .left) (ap Held (sym (c .before .before .of .ensures))))
+returns-2 c = sym (stop _ (ap not (sym (c .before .known .ensures) ∙ c .if1 .left)))
 
 pub field-bytes-spec : {M : Type 1} → statement M
-field-bytes-spec = tie.close (tie.spec of-requires known-requires returns returns-2)
+field-bytes-spec = tie.close (tie.spec known-requires of-requires returns returns-2)

@@ -32,8 +32,8 @@ loop-holds c =
 scale-of-requires : tie.Need-scale-of-requires Inv-loop μ-loop
 scale-of-requires c κs = search needs
 
-channel-requires : tie.Need-channel-requires Inv-loop μ-loop
-channel-requires c κs =
+one-channel-requires : tie.Need-one-channel-requires Inv-loop μ-loop
+one-channel-requires c κs =
     let t = c .before .before in
     let s = t .before .before .before .before in
     ((s .pre .0 .0, t .loop-test .taken, c .before .scale-of .ensures ∙ fitted-in (s .args .layout) (s .args .scales) (t .before .loop .k) (s .pre .0 .1) (t .loop-test .taken)), (s .pre .1 .0, long (t .before) ∙ s .pre .1 .1))
@@ -48,7 +48,7 @@ loop-again : tie.Need-loop-again Inv-loop μ-loop
 loop-again c =
     let l = c .before .before .before .before .before .before .loop in
     let a = c .before .before .before .before .before .before .before .before .before .args in
-    (omega arith, channels-more (valueAt (a .layout) (a .packed .now)) (a .out .now) (l .out) _ (a .n) (l .k) (l .inv .1) (c .before .before .channel .ensures))
+    (omega arith, channels-more (valueAt (a .layout) (a .packed .now)) (a .out .now) (l .out) _ (a .n) (l .k) (l .inv .1) (c .before .before .one-channel .ensures))
 
 same-length : tie.Need-same-length Inv-loop μ-loop
 same-length c = long (c .before)
@@ -62,4 +62,4 @@ returns c =
     ∙ values-whole (a .layout) (a .packed .now) (a .n) (s .pre .0 .0) (s .pre .1 .0)
 
 pub channels-spec : {M : Type 1} → statement M
-channels-spec = tie.close (tie.spec Inv-loop μ-loop loop-holds scale-of-requires channel-requires add-k loop-less loop-again same-length returns)
+channels-spec = tie.close (tie.spec Inv-loop μ-loop loop-holds scale-of-requires one-channel-requires add-k loop-less loop-again same-length returns)

@@ -1,7 +1,7 @@
 -- `decoding::points` meets its contract: each turn fills in one point's values. Assumes nothing.
 use borrow.Author.Needs.{needs}
 use mathlib.Core.Path.{_≡_}
-use Prim.Native.Nat.{_+_, _*_, _-_, _≤_}
+use Prim.Native.Nat.{_*_, _-_, _≤_}
 use native.Mathlib.Omega.{arith}
 use Rattle.lists.proofs.Bytes.{are-bytes}
 use Rattle.lists.proofs.Filled.{Filled, filled-none, filled-length}

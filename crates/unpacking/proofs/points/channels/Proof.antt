@@ -1,5 +1,4 @@
 -- `unpacking::channels` meets its contract: each turn stores one channel. Assumes nothing.
-use borrow.Author.Needs.{needs}
 use mathlib.Core.Path.{_≡_, ap, _∙_}
 use Prim.Native.Nat.{_-_, _≤_}
 use native.Mathlib.Omega.{arith}
@@ -28,8 +27,8 @@ loop-holds c =
     let a = c .before .before .args in
     (omega arith, channels-none (codeAt (a .layout) (a .packed .now)) (a .codes .now) (a .n))
 
-channel-requires : tie.Need-channel-requires Inv-loop μ-loop
-channel-requires c κs =
+one-channel-requires : tie.Need-one-channel-requires Inv-loop μ-loop
+one-channel-requires c κs =
     let s = c .before .before .before .before .before in
     ((s .pre .0, c .before .loop-test .taken), (s .pre .1 .0, long (c .before .before) ∙ s .pre .1 .1))
 
@@ -43,7 +42,7 @@ loop-again : tie.Need-loop-again Inv-loop μ-loop
 loop-again c =
     let l = c .before .before .before .before .before .loop in
     let a = c .before .before .before .before .before .before .before .before .args in
-    (omega arith, channels-more (codeAt (a .layout) (a .packed .now)) (a .codes .now) (l .codes) _ (a .n) (l .k) (l .inv .1) (c .before .before .channel .ensures))
+    (omega arith, channels-more (codeAt (a .layout) (a .packed .now)) (a .codes .now) (l .codes) _ (a .n) (l .k) (l .inv .1) (c .before .before .one-channel .ensures))
 
 same-length : tie.Need-same-length Inv-loop μ-loop
 same-length c = long (c .before)
@@ -57,4 +56,4 @@ returns c =
     ∙ codes-whole (a .layout) (a .packed .now) (a .n) (s .pre .0) (s .pre .1 .0)
 
 pub channels-spec : {M : Type 1} → statement M
-channels-spec = tie.close (tie.spec Inv-loop μ-loop loop-holds channel-requires add-k loop-less loop-again same-length returns)
+channels-spec = tie.close (tie.spec Inv-loop μ-loop loop-holds one-channel-requires add-k loop-less loop-again same-length returns)

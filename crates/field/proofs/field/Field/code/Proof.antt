@@ -1,6 +1,6 @@
 -- `field::Field::code` meets its contract, by the number of bytes. Assumes nothing.
 use borrow.Author.Needs.{needs}
-use mathlib.Core.Path.{ap, ap₂, _∙_}
+use mathlib.Core.Path.{ap₂, _∙_}
 use Prim.Native.Nat.{ℕ, _+_, _*_, _%_}
 use Rattle.line.specs.Point.{bits}
 use Rattle.field.proofs.Read.{read-none, read-one, read-two, read-three}

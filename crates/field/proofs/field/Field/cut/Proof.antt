@@ -2,7 +2,7 @@
 use borrow.Author.Needs.{needs}
 use Prim.Native.Nat.{_%_}
 use native.Mathlib.Omega.{arith}
-use Rattle.line.proofs.Masks.{mask-fits, masked, code-fits}
+use Rattle.field.proofs.Masks.{mask-fits, masked, code-fits}
 use Rattle.field.proofs.field.Field.cut.Statement.{statement}
 use Rattle.field.proofs.field.Field.cut.Tie as tie
 

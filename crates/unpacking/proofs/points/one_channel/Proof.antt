@@ -1,4 +1,4 @@
--- `unpacking::channel` meets its contract: each turn stores one code. Assumes nothing.
+-- `unpacking::one_channel` meets its contract: each turn stores one code. Assumes nothing.
 use borrow.Author.Needs.{needs}
 use mathlib.Core.Path.{_≡_, refl, ap, _∙_}
 use Prim.Native.Nat.{_+_, _*_, _-_, _^_, _≤_, _<_}
@@ -10,8 +10,8 @@ use Rattle.line.specs.Line.{codeAt}
 use Rattle.line.specs.inner.Channels.{channelWritten}
 use Rattle.line.proofs.Channels.{channel-none, channel-more, length-channel}
 use Rattle.field.proofs.Line.{field-reaches, field-read, next-point}
-use Rattle.unpacking.proofs.points.channel.Statement.{statement}
-use Rattle.unpacking.proofs.points.channel.Tie as tie
+use Rattle.unpacking.proofs.points.one_channel.Statement.{statement}
+use Rattle.unpacking.proofs.points.one_channel.Tie as tie
 
 abbrev Inv-loop : tie.InvT-loop
 Inv-loop layout channel packed codes₀ n field count place at₀ i₀ codes at i = (i ≤ n) × (at ≡ i * layout .bytes + field .first) × (codes ≡ channelWritten codes₀ (codeAt layout packed) channel i)
@@ -99,5 +99,5 @@ returns c =
     let e : l .i ≡ a .n = omega arith in
     l .inv .2 ∙ ap (channelWritten (a .codes .now) (codeAt (a .layout) (a .packed .now)) (a .channel)) e
 
-pub channel-spec : {M : Type 1} → statement M
-channel-spec = tie.close (tie.spec Inv-loop μ-loop of-requires loop-holds code-at-requires mul-codes add-codes mul-codes-2 slice-write-codes step-requires add-at add-i loop-less loop-again same-length returns)
+pub one-channel-spec : {M : Type 1} → statement M
+one-channel-spec = tie.close (tie.spec Inv-loop μ-loop of-requires loop-holds code-at-requires mul-codes add-codes mul-codes-2 slice-write-codes step-requires add-at add-i loop-less loop-again same-length returns)

@@ -1,4 +1,4 @@
--- `decoding::channel` meets its contract: each turn stores one value. Assumes nothing.
+-- `decoding::one_channel` meets its contract: each turn stores one value. Assumes nothing.
 use borrow.Author.Needs.{needs}
 use mathlib.Core.Path.{_≡_, refl, ap, _∙_}
 use Prim.Native.Nat.{_+_, _*_, _-_, _^_, _≤_, _<_}
@@ -11,8 +11,8 @@ use Rattle.line.specs.inner.Channels.{channelWritten}
 use Rattle.line.proofs.Channels.{channel-none, channel-more, length-channel}
 use Rattle.field.proofs.Line.{field-reaches, field-read, next-point}
 use Rattle.decoding.proofs.Values.{value-of}
-use Rattle.decoding.proofs.points.channel.Statement.{statement}
-use Rattle.decoding.proofs.points.channel.Tie as tie
+use Rattle.decoding.proofs.points.one_channel.Statement.{statement}
+use Rattle.decoding.proofs.points.one_channel.Tie as tie
 
 abbrev Inv-loop : tie.InvT-loop
 Inv-loop layout channel scale packed out₀ n field count place at₀ i₀ out at i = (i ≤ n) × (at ≡ i * layout .bytes + field .first) × (out ≡ channelWritten out₀ (valueAt layout packed) channel i)
@@ -101,5 +101,5 @@ returns c =
     let e : l .i ≡ a .n = omega arith in
     l .inv .2 ∙ ap (channelWritten (a .out .now) (valueAt (a .layout) (a .packed .now)) (a .channel)) e
 
-pub channel-spec : {M : Type 1} → statement M
-channel-spec = tie.close (tie.spec Inv-loop μ-loop of-requires loop-holds value-at-requires mul-out add-out mul-out-2 slice-write-out step-requires add-at add-i loop-less loop-again same-length returns)
+pub one-channel-spec : {M : Type 1} → statement M
+one-channel-spec = tie.close (tie.spec Inv-loop μ-loop of-requires loop-holds value-at-requires mul-out add-out mul-out-2 slice-write-out step-requires add-at add-i loop-less loop-again same-length returns)
