@@ -36,6 +36,8 @@ pub struct Case {
     pub stack: usize,
     library: Side,
     plain: Side,
+    /// Plain Rust in lines of one point; none but for lines.
+    plain_short: Option<Side>,
     /// The library before, where it is given and has the entry.
     before: Option<Side>,
     /// The same in lines of one point; none but for lines.
@@ -87,6 +89,7 @@ impl Case {
             stack: check.stack,
             library: side(library, POINTS),
             plain: side(plain, POINTS),
+            plain_short: Some(side(plain, LENGTHS[0])),
             before: None,
             before_short: None,
             lengths: LENGTHS.map(|length| side(library, length)).into(),
@@ -116,6 +119,7 @@ impl Case {
             stack: check.stack,
             library,
             plain,
+            plain_short: None,
             before: None,
             before_short: None,
             lengths: Vec::new(),
@@ -123,13 +127,13 @@ impl Case {
         })
     }
 
-    /// Beside the library before, if it is given. An error if that answers otherwise.
+    /// Beside the library before, if it is given. An error if that answers other numbers.
     pub fn beside(mut self, before: Option<Side>) -> Result<Case, String> {
         self.before = before;
         if let Some(before) = &mut self.before {
             let answers = [self.library.answers(), before.answers()];
             if answers[0] != answers[1] {
-                let what = "the library before answers otherwise,";
+                let what = "the library before answers other numbers,";
                 return Err(self.label.wrong(what, answers));
             }
         }
@@ -153,7 +157,10 @@ impl Case {
         programs.extend(&mut self.before);
         measure_in_turn(programs, round);
         let lengths = self.lengths.iter_mut();
-        measure_in_turn(lengths.chain(&mut self.before_short).collect(), round);
+        let short = lengths
+            .chain(&mut self.plain_short)
+            .chain(&mut self.before_short);
+        measure_in_turn(short.collect(), round);
     }
 
     /// The library's nanoseconds a point or a call.
@@ -177,10 +184,20 @@ impl Case {
         Some(median(self.library.over(before)))
     }
 
-    /// The same in lines of one point, the first of the lengths.
+    /// The library's ratio to plain Rust in lines of one point.
+    pub fn ratio_short(&self) -> Option<f64> {
+        self.short_over(&self.plain_short)
+    }
+
+    /// The same to the library before.
     pub fn before_short(&self) -> Option<f64> {
-        let (library, before) = (self.lengths.first()?, self.before_short.as_ref()?);
-        Some(median(library.over(before)))
+        self.short_over(&self.before_short)
+    }
+
+    /// The first of the lengths is one point.
+    fn short_over(&self, other: &Option<Side>) -> Option<f64> {
+        let (library, other) = (self.lengths.first()?, other.as_ref()?);
+        Some(median(library.over(other)))
     }
 
     /// Nanoseconds a point at each of the lengths.

@@ -52,6 +52,7 @@ Written by `bench/run --write`, from one run; `bench/run` alone prints the same 
 - *at {lengths}*: the library's nanoseconds a point where the same {POINTS} points are given as lines of so many.
 - *growth*: the most by which the cost a point rises from one of these lengths to any longer one, on any of the row's
   inputs: under 1 it falls everywhere. The run fails above {MOST_GROWTH}.
+- *ratio at 1*: the ratio to plain Rust where both are given the line as lines of one point.
 - *stack*: the most bytes of stack that a call used, on accepted and refused inputs; the return address and the few
   frames between the benchmark and the entry are counted too. The run fails above {limit}.
 

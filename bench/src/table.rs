@@ -11,9 +11,21 @@ pub const MOST_GROWTH: f64 = 1.1;
 /// 1.4 to 2.5 times as long, and less only where all fields have three bytes.
 pub const MOST_APART: f64 = 1.35;
 
-const HEAD: [&str; 13] = [
-    "entry", "setting", "input", "a", "library", "plain", "ratio", "aim", BEFORE[0], BEFORE[1],
-    "lengths", "growth", "stack",
+const HEAD: [&str; 14] = [
+    "entry",
+    "setting",
+    "input",
+    "a",
+    "library",
+    "plain",
+    "ratio",
+    "aim",
+    BEFORE[0],
+    "lengths",
+    "growth",
+    "ratio at 1",
+    BEFORE[1],
+    "stack",
 ];
 
 /// Columns that are shown only where there is an earlier library.
@@ -57,8 +69,8 @@ impl Row<'_> {
     }
 
     pub fn apart(&self) -> bool {
-        let ratio = self.worst().ratio();
-        self.entry() == "decode_line" && ratio.max(1.0 / ratio) > MOST_APART
+        let apart = |ratio: f64| ratio.max(1.0 / ratio) > MOST_APART;
+        self.entry() == "decode_line" && self.cases.iter().any(|case| apart(case.ratio()))
     }
 
     pub fn rises(&self) -> bool {
@@ -108,12 +120,16 @@ impl Row<'_> {
             aim(case.label.entry).map_or(String::new(), |aim| aim.to_string()),
         ];
         if before {
-            cells.extend([case.before(), case.before_short()].map(times));
+            cells.push(times(case.before()));
         }
         let mut lengths: Vec<String> = case.lengths().into_iter().map(nanoseconds).collect();
         lengths.resize(LENGTHS.len(), String::new());
         cells.extend(lengths);
         cells.push(times(self.growth()));
+        cells.push(times(case.ratio_short()));
+        if before {
+            cells.push(times(case.before_short()));
+        }
         cells.push(self.stack().to_string());
         cells
     }

@@ -3,7 +3,7 @@ use mathlib.Core.Path.{_≡_, sym, ap, ap₂, _∙_}
 use mathlib.Core.Bool.{true}
 use mathlib.Core.List.{List}
 use Prim.Native.Nat.{ℕ, _+_, _-_, _*_, _/_, _%_, _^_, _≤_, _<_}
-use native.Mathlib.Nat.{mod-lt, div-add-mod', mul-comm, mul-div-cancel, div-lt-iff-lt-mul, add-zero}
+use native.Mathlib.Nat.{mod-lt, div-add-mod', mul-comm, div-lt-iff-lt-mul, add-zero}
 use native.Mathlib.Omega.{arith}
 use lib.Bits.{bitAnd, bitOr}
 use borrow.Author.Tests.{le-leb}

@@ -65,7 +65,7 @@ pub const WRONG: &[Wrong] = &[
         |layout, packed, out| decoded_from(layout, packed, out, place_in_turned_bytes),
     ),
     decodes(
-        "a field's third byte taken for its second, decoding",
+        "a field's second byte read for its third, decoding",
         |layout, packed, out| decoded_from(layout, packed, out, place_in_two_bytes),
     ),
     decodes_points(

@@ -45,7 +45,7 @@ pub const WRONG: &[Wrong] = &[
         |layout, packed, out| unpacked(layout, packed, out, place_in_turned_bytes),
     ),
     unpacks(
-        "a field's third byte taken for its second, unpacking",
+        "a field's second byte read for its third, unpacking",
         |layout, packed, out| unpacked(layout, packed, out, place_in_two_bytes),
     ),
     unpacks("points cut to 32 bits", |layout, packed, out| {
