@@ -1,6 +1,7 @@
 // A field, and the one function that reads a code.
 ghost use mathlib.Core.Path.{_≡_};
-ghost use Prim.Native.Nat.{_-_, _%_, _<_};
+ghost use Prim.Native.Nat.{_+_, _-_, _*_, _%_, _<_, _≤_};
+ghost use lib.ListN.{length, getD};
 ghost use Rattle.layout.specs.Layout.{offsetOf};
 ghost use Rattle.line.specs.Point.{bits};
 ghost use Rattle.field.specs.Field.{fieldAt, fieldOf};
@@ -41,6 +42,21 @@ fn wide(byte: u8) -> u32
     ensures { λ r. ⌜ (r ≡ byte) × (r < 256) ⌝ }
 {
     byte as u32
+}
+
+// The numbers of two bytes and of three, the lowest first.
+fn two(bytes: &[u8]) -> u32
+    requires { ⌜ 2 ≤ length (now bytes) ⌝ }
+    ensures { λ r. ⌜ r ≡ getD (now (bytes .entry)) 0 0 + getD (now (bytes .entry)) 1 0 * 256 ⌝ }
+{
+    wide(bytes[0]) + wide(bytes[1]) * 256
+}
+
+fn three(bytes: &[u8]) -> u32
+    requires { ⌜ 3 ≤ length (now bytes) ⌝ }
+    ensures { λ r. ⌜ r ≡ getD (now (bytes .entry)) 0 0 + getD (now (bytes .entry)) 1 0 * 256 + getD (now (bytes .entry)) 2 0 * 65536 ⌝ }
+{
+    wide(bytes[0]) + wide(bytes[1]) * 256 + wide(bytes[2]) * 65536
 }
 
 // A byte that is a whole field: its bits 0 to 7.
@@ -92,11 +108,11 @@ impl Field {
         if count == 1 {
             whole(bytes[0])
         } else if count == 2 {
-            self.cut(wide(bytes[0]) + wide(bytes[1]) * 256)
+            self.cut(two(bytes))
         } else if count == 0 {
             0
         } else {
-            self.cut(wide(bytes[0]) + wide(bytes[1]) * 256 + wide(bytes[2]) * 65536)
+            self.cut(three(bytes))
         }
     }
 }
