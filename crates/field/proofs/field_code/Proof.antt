@@ -26,15 +26,10 @@ returns : tie.Need-returns
 unfolding codeAnswer
 returns c = sym (stop _ (sym (ap not (c .before .known .ensures)) ∙ c .if1 .taken))
 
-returns-2 : tie.Need-returns-2
-unfolding codeAnswer
-returns-2 c =
-    let f = c .before .before in
-    sym (pass _ (ap not (known-so (f .before))) (stop _ (ap not (ne-eqb _ _ (λ e. c .if2 .taken (e ∙ sym (ap (λ (g : Field). g .count) (f .of .ensures))))))))
-
 code-requires : tie.Need-code-requires
 code-requires c κs = search needs
 
+-- the row that accepts stands first: what it needs of the number of bytes is the first thing to fail where the test is another
 returns-3 : tie.Need-returns-3
 unfolding codeAnswer
 returns-3 c =
@@ -46,6 +41,12 @@ returns-3 c =
     let count = e .if2 .left ∙ ap (λ (f : Field). f .count) field in
     sym (pass _ (ap not (known-so k)) (pass _ (ap not (eq-eqb _ _ count)) (ap Code (sym
     (c .code .ensures ∙ ap (λ (f : Field). readCode f (a .bytes .now)) field ∙ read-is (a .layout) (a .channel) (a .bytes .now) (and-left (validLayout (a .layout)) (channelKnown (a .channel)) (known-so k)) count)))))
+
+returns-2 : tie.Need-returns-2
+unfolding codeAnswer
+returns-2 c =
+    let f = c .before .before in
+    sym (pass _ (ap not (known-so (f .before))) (stop _ (ap not (ne-eqb _ _ (λ e. c .if2 .taken (e ∙ sym (ap (λ (g : Field). g .count) (f .of .ensures))))))))
 
 pub field-code-spec : {M : Type 1} → statement M
 field-code-spec = tie.close (tie.spec known-requires returns of-requires returns-2 code-requires returns-3)
