@@ -68,9 +68,11 @@ int64_t imurraqi_dequantize(uint8_t model, uint8_t range, uint8_t depth,
  * that its range makes. Narrow range makes 1 to 254, 4 to 1019 and 16 to 4079 at
  * 8, 10 and 12 bits, since video keeps the codes beyond for timing. Legacy full
  * range makes none above 4092 at 12 bits. Infinities give the ends. Refused: 9,
- * then 12. */
+ * then 12.
+ * cuts: 1 if the value was cut, else 0. It was cut if its rounded number lay
+ * beyond the ends, so that the clamp moved it; an infinity always is. */
 int64_t imurraqi_quantize(uint8_t model, uint8_t range, uint8_t depth,
-                          uint8_t channel, float value);
+                          uint8_t channel, float value, uint32_t *cuts);
 
 /* Decodes one point, as a line of one point is: three floats in channel order.
  * Answers 1. Refused: 9, then 13. point: three floats. */
@@ -84,16 +86,18 @@ int64_t imurraqi_decode_line(const uint8_t layout[8], const uint8_t *packed,
                              size_t len, float *out, size_t out_len);
 
 /* Encodes one point, as a line of one point is. Answers 1.
- * Refused: 9, then 13, then 12. */
+ * Refused: 9, then 13, then 12. cuts: how many of its three values were cut. */
 int64_t imurraqi_encode_point(const uint8_t layout[8], float channel0,
                               float channel1, float channel2, uint8_t *out,
-                              size_t out_len);
+                              size_t out_len, uint32_t *cuts);
 
 /* Encodes a line of values, three a point in channel order, to packed points, each
  * value as the code that imurraqi_quantize answers. Answers the count of points.
- * Refused: 9, then 13, then 12. */
+ * Refused: 9, then 13, then 12.
+ * cuts: how many of the values were cut, as imurraqi_quantize tells it of each. */
 int64_t imurraqi_encode_line(const uint8_t layout[8], const float *values,
-                             size_t len, uint8_t *out, size_t out_len);
+                             size_t len, uint8_t *out, size_t out_len,
+                             uint32_t *cuts);
 
 /* How many bytes of a point hold the field of a channel: one to three, side by
  * side. Refused: 9.
@@ -122,17 +126,20 @@ int64_t imurraqi_pack_line(const uint8_t layout[8], const uint16_t *codes,
  * weights of the primaries, into an array of the same length. range_in is the
  * range of codes, range_out that of out: any range on either side. Any code of the
  * depth may be given; those made are clamped as imurraqi_quantize clamps them.
- * Answers the count of points. Refused: 9, then 13, then 14. */
+ * Answers the count of points. Refused: 9, then 13, then 14.
+ * cuts: how many of the codes made were cut: their rounded numbers lay beyond the
+ * ends of range_out. Where that is full range, a half is rounded away from 0, and
+ * -1/2 is cut; in legacy full range it is rounded up, to 0, and is not. */
 int64_t imurraqi_rgb_to_ycbcr(uint8_t primaries, uint8_t depth,
                               uint8_t range_in, uint8_t range_out,
                               const uint16_t *codes, size_t len, uint16_t *out,
-                              size_t out_len);
+                              size_t out_len, uint32_t *cuts);
 
 /* Converts a line of codes of Y', Cb, Cr to R', G', B' likewise. */
 int64_t imurraqi_ycbcr_to_rgb(uint8_t primaries, uint8_t depth,
                               uint8_t range_in, uint8_t range_out,
                               const uint16_t *codes, size_t len, uint16_t *out,
-                              size_t out_len);
+                              size_t out_len, uint32_t *cuts);
 
 /* What a card shows at an edition, 1 to 3. Answers 0. Refused: 1, 7, 9 where
  * byte 0 is 0, 8, 9 for bytes 1 to 23 and a byte 0 that is not the layout's, 10,

@@ -6,18 +6,29 @@ use std::mem::transmute_copy;
 
 use imurraqi::ffi;
 
+use crate::plain::colors::Conversion;
 use crate::plain::layout::Numbers;
+use crate::plain::values::Setting;
 
 /// An earlier library, which stays loaded.
 pub struct Before(*mut c_void);
 
 /// As [`LineJob`](crate::case::LineJob), by a function that was found.
-pub type LineBefore<I, O> = Box<dyn Fn(Numbers, &[I], &mut [O]) -> i64>;
+pub type LineBefore<S, I, O> = Box<dyn Fn(S, &[I], &mut [O], &mut u32) -> i64>;
 
-pub type PointBefore = Box<dyn Fn(Numbers, &[u8], &mut [f32; 3]) -> i64>;
+pub type QuantizeBefore = Box<dyn Fn(Setting, f32, &mut u32) -> i64>;
+pub type DecodePointBefore = Box<dyn Fn(Numbers, &[u8], &mut [f32; 3]) -> i64>;
+pub type EncodePointBefore = Box<dyn Fn(Numbers, [f32; 3], &mut [u8], &mut u32) -> i64>;
 
-type LineEntry<I, O> = unsafe extern "C" fn(*const Numbers, *const I, usize, *mut O, usize) -> i64;
-type PointEntry = unsafe extern "C" fn(*const Numbers, *const u8, usize, *mut [f32; 3]) -> i64;
+type Quantize = unsafe extern "C" fn(u8, u8, u8, u8, f32, *mut u32) -> i64;
+type DecodePoint = unsafe extern "C" fn(*const Numbers, *const u8, usize, *mut [f32; 3]) -> i64;
+type EncodePoint =
+    unsafe extern "C" fn(*const Numbers, f32, f32, f32, *mut u8, usize, *mut u32) -> i64;
+type Line<I, O> = unsafe extern "C" fn(*const Numbers, *const I, usize, *mut O, usize) -> i64;
+type EncodeLine =
+    unsafe extern "C" fn(*const Numbers, *const f32, usize, *mut u8, usize, *mut u32) -> i64;
+type Convert =
+    unsafe extern "C" fn(u8, u8, u8, u8, *const u16, usize, *mut u16, usize, *mut u32) -> i64;
 
 extern "C" {
     fn dlopen(path: *const c_char, flags: c_int) -> *mut c_void;
@@ -26,28 +37,68 @@ extern "C" {
 
 const RTLD_NOW: c_int = 2;
 
-/// The entries that are compared, all with the same parameters in both libraries:
-/// one whose parameters change is to be left out. None if the earlier library
-/// does not have it.
+/// The entries that are compared. Their parameters are the same in both libraries, or
+/// the earlier one lacks the last, the number of cuts: on x86-64 it then does not look at
+/// it, and whoever calls clears it away. So its cuts may be left as they were, and are not
+/// compared. Other entries whose parameters change are to be left out. None if the earlier
+/// library does not have it.
 impl Before {
-    pub fn decode_point(&self) -> Option<PointBefore> {
-        let entry: PointEntry = self.entry(c"imurraqi_decode_point", ffi::imurraqi_decode_point)?;
+    pub fn quantize(&self) -> Option<QuantizeBefore> {
+        let present: Quantize = ffi::imurraqi_quantize;
+        let entry = self.entry(c"imurraqi_quantize", present)?;
+        Some(Box::new(move |setting, value, cuts| {
+            let [model, range, depth, channel] = setting;
+            // SAFETY: nothing else uses the number of cuts.
+            unsafe { entry(model, range, depth, channel, value, cuts) }
+        }))
+    }
+
+    pub fn decode_point(&self) -> Option<DecodePointBefore> {
+        let present: DecodePoint = ffi::imurraqi_decode_point;
+        let entry = self.entry(c"imurraqi_decode_point", present)?;
         Some(Box::new(move |layout, packed, point| {
             // SAFETY: as for a line, and the point is three floats.
             unsafe { entry(&layout, packed.as_ptr(), packed.len(), point) }
         }))
     }
 
-    pub fn decode_line(&self) -> Option<LineBefore<u8, f32>> {
+    pub fn encode_point(&self) -> Option<EncodePointBefore> {
+        let present: EncodePoint = ffi::imurraqi_encode_point;
+        let entry = self.entry(c"imurraqi_encode_point", present)?;
+        Some(Box::new(move |layout, [x, y, z], out, cuts| {
+            // SAFETY: as for a line.
+            unsafe { entry(&layout, x, y, z, out.as_mut_ptr(), out.len(), cuts) }
+        }))
+    }
+
+    pub fn decode_line(&self) -> Option<LineBefore<Numbers, u8, f32>> {
         self.line(c"imurraqi_decode_line", ffi::imurraqi_decode_line)
     }
 
-    pub fn unpack_line(&self) -> Option<LineBefore<u8, u16>> {
+    pub fn encode_line(&self) -> Option<LineBefore<Numbers, f32, u8>> {
+        let present: EncodeLine = ffi::imurraqi_encode_line;
+        let entry = self.entry(c"imurraqi_encode_line", present)?;
+        Some(Box::new(move |layout, given, out, cuts| {
+            let (values, len) = (given.as_ptr(), given.len());
+            // SAFETY: as for the other lines.
+            unsafe { entry(&layout, values, len, out.as_mut_ptr(), out.len(), cuts) }
+        }))
+    }
+
+    pub fn unpack_line(&self) -> Option<LineBefore<Numbers, u8, u16>> {
         self.line(c"imurraqi_unpack_line", ffi::imurraqi_unpack_line)
     }
 
-    pub fn pack_line(&self) -> Option<LineBefore<u16, u8>> {
+    pub fn pack_line(&self) -> Option<LineBefore<Numbers, u16, u8>> {
         self.line(c"imurraqi_pack_line", ffi::imurraqi_pack_line)
+    }
+
+    pub fn rgb_to_ycbcr(&self) -> Option<LineBefore<Conversion, u16, u16>> {
+        self.convert(c"imurraqi_rgb_to_ycbcr", ffi::imurraqi_rgb_to_ycbcr)
+    }
+
+    pub fn ycbcr_to_rgb(&self) -> Option<LineBefore<Conversion, u16, u16>> {
+        self.convert(c"imurraqi_ycbcr_to_rgb", ffi::imurraqi_ycbcr_to_rgb)
     }
 }
 
@@ -67,10 +118,10 @@ impl Before {
     fn line<I: 'static, O: 'static>(
         &self,
         name: &CStr,
-        present: LineEntry<I, O>,
-    ) -> Option<LineBefore<I, O>> {
+        present: Line<I, O>,
+    ) -> Option<LineBefore<Numbers, I, O>> {
         let entry = self.entry(name, present)?;
-        Some(Box::new(move |layout, given, out| {
+        Some(Box::new(move |layout, given, out, _| {
             // SAFETY: the pointers are to as many elements as the lengths say, and
             // nothing else uses the output.
             unsafe {
@@ -85,12 +136,29 @@ impl Before {
         }))
     }
 
-    /// The function of a name, of the present one's type.
+    fn convert(&self, name: &CStr, present: Convert) -> Option<LineBefore<Conversion, u16, u16>> {
+        let entry = self.entry(name, present)?;
+        Some(Box::new(move |conversion, given, out, cuts| {
+            let [primaries, depth, range_in, range_out] = conversion;
+            let (codes, len) = (given.as_ptr(), given.len());
+            let (made, made_len) = (out.as_mut_ptr(), out.len());
+            // SAFETY: as for the other lines.
+            unsafe {
+                entry(
+                    primaries, depth, range_in, range_out, codes, len, made, made_len, cuts,
+                )
+            }
+        }))
+    }
+
+    /// The function of a name, of the present one's type. That must be a pointer to it: the
+    /// name of a function alone has a type of its own, which can only be the present one.
     fn entry<F: Copy>(&self, name: &CStr, _present: F) -> Option<F> {
+        const { assert!(size_of::<F>() == size_of::<*mut c_void>()) };
         // SAFETY: the library is loaded, and the name ends in a zero byte.
         let found = unsafe { dlsym(self.0, name.as_ptr()) };
         // SAFETY: F is a pointer to a function of the C interface, and has the same
-        // parameters in both.
+        // parameters in both, or one more for the number of cuts.
         (!found.is_null()).then(|| unsafe { transmute_copy(&found) })
     }
 }

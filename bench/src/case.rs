@@ -2,13 +2,21 @@
 //! given: checked, then measured.
 
 use std::hint::black_box;
+use std::rc::Rc;
 
+use crate::before::LineBefore;
 use crate::inputs::POINTS;
 use crate::side::{median, Side};
 use crate::stack_use;
 
 /// Lengths of lines, in points: the same points are cut into such lines.
 pub const LENGTHS: [usize; 6] = [1, 16, 64, 256, 1024, POINTS];
+
+/// Those of them at which the library before is measured too, beside the whole line.
+pub const BEFORE_LENGTHS: [usize; 3] = [1, 16, 256];
+
+/// A number of cuts as it is before a call that is checked: more than there can be.
+pub const NO_CUTS: u32 = u32::MAX;
 
 /// What a case is called in the table.
 #[derive(Clone)]
@@ -40,8 +48,8 @@ pub struct Case {
     plain_short: Option<Side>,
     /// The library before, where it is given and has the entry.
     before: Option<Side>,
-    /// The same in lines of one point; none but for lines.
-    before_short: Option<Side>,
+    /// The same at its lengths; none but for lines.
+    before_lengths: Vec<Side>,
     /// The library at each of the lengths; none but for lines.
     lengths: Vec<Side>,
 }
@@ -55,8 +63,9 @@ pub struct Line<S, I> {
     pub output: usize,
 }
 
-/// A job on lines answers the count of points.
-pub type LineJob<S, I, O> = fn(S, &[I], &mut [O]) -> i64;
+/// A job on lines answers the count of points, and stores the number of cuts if it counts
+/// them.
+pub type LineJob<S, I, O> = fn(S, &[I], &mut [O], &mut u32) -> i64;
 
 /// Any other job takes one input and may fill an output.
 pub type CallJob<I, O> = fn(&I, &mut O) -> i64;
@@ -77,9 +86,11 @@ impl Case {
     {
         let mut check = Check::new(&label);
         for (line, wanted) in inputs(std::slice::from_ref(&accepted), refused) {
-            let output = vec![O::default(); line.output];
+            let output = (vec![O::default(); line.output], NO_CUTS);
             let [library, plain] = jobs.map(|job| {
-                move |made: &mut Vec<O>| job(line.numbers, black_box(&line.elements), made)
+                move |(made, cuts): &mut (Vec<O>, u32)| {
+                    job(line.numbers, black_box(&line.elements), made, cuts)
+                }
             });
             check.add(wanted, &output, library, plain)?;
         }
@@ -91,7 +102,7 @@ impl Case {
             plain: side(plain, POINTS),
             plain_short: Some(side(plain, LENGTHS[0])),
             before: None,
-            before_short: None,
+            before_lengths: Vec::new(),
             lengths: LENGTHS.map(|length| side(library, length)).into(),
             label,
         })
@@ -121,7 +132,7 @@ impl Case {
             plain,
             plain_short: None,
             before: None,
-            before_short: None,
+            before_lengths: Vec::new(),
             lengths: Vec::new(),
             label,
         })
@@ -140,10 +151,30 @@ impl Case {
         Ok(self)
     }
 
-    /// And beside it in lines of one point.
-    pub fn beside_short(mut self, before: Option<Side>) -> Case {
-        self.before_short = before;
-        self
+    /// The same of a line: along the whole of it, and in shorter ones.
+    pub fn beside_line<S, I, O>(
+        self,
+        line: Line<S, I>,
+        before: Option<LineBefore<S, I, O>>,
+    ) -> Result<Case, String>
+    where
+        S: Copy + 'static,
+        I: Clone + 'static,
+        O: Copy + Default + 'static,
+    {
+        let Some(job) = before.map(Rc::new) else {
+            return Ok(self);
+        };
+        let side = |length| {
+            let job = job.clone();
+            let job = move |numbers: S, given: &[I], made: &mut [O], cuts: &mut u32| {
+                job(numbers, given, made, cuts)
+            };
+            line_side(job, line.clone(), length)
+        };
+        let mut case = self.beside(Some(side(POINTS)))?;
+        case.before_lengths = BEFORE_LENGTHS.map(side).into();
+        Ok(case)
     }
 
     pub fn is_line(&self) -> bool {
@@ -159,7 +190,7 @@ impl Case {
         let lengths = self.lengths.iter_mut();
         let short = lengths
             .chain(&mut self.plain_short)
-            .chain(&mut self.before_short);
+            .chain(&mut self.before_lengths);
         measure_in_turn(short.collect(), round);
     }
 
@@ -184,20 +215,20 @@ impl Case {
         Some(median(self.library.over(before)))
     }
 
-    /// The library's ratio to plain Rust in lines of one point.
+    /// The library's ratio to plain Rust in lines of one point, which is the first of the
+    /// lengths.
     pub fn ratio_short(&self) -> Option<f64> {
-        self.short_over(&self.plain_short)
+        let (library, plain) = (self.lengths.first()?, self.plain_short.as_ref()?);
+        Some(median(library.over(plain)))
     }
 
-    /// The same to the library before.
-    pub fn before_short(&self) -> Option<f64> {
-        self.short_over(&self.before_short)
-    }
-
-    /// The first of the lengths is one point.
-    fn short_over(&self, other: &Option<Side>) -> Option<f64> {
-        let (library, other) = (self.lengths.first()?, other.as_ref()?);
-        Some(median(library.over(other)))
+    /// Its ratio to the library before at each of that one's lengths.
+    pub fn before_lengths(&self) -> [Option<f64>; BEFORE_LENGTHS.len()] {
+        let mut before = self.before_lengths.iter();
+        BEFORE_LENGTHS.map(|length| {
+            let place = LENGTHS.iter().position(|other| *other == length)?;
+            Some(median(self.lengths.get(place)?.over(before.next()?)))
+        })
     }
 
     /// Nanoseconds a point at each of the lengths.
@@ -227,7 +258,7 @@ fn measure_in_turn(mut sides: Vec<&mut Side>, round: usize) {
 
 /// The whole line, as lines of so many points.
 pub fn line_side<S, I, O>(
-    job: impl Fn(S, &[I], &mut [O]) -> i64 + 'static,
+    job: impl Fn(S, &[I], &mut [O], &mut u32) -> i64 + 'static,
     line: Line<S, I>,
     length: usize,
 ) -> Side
@@ -247,8 +278,15 @@ where
     Side::new(POINTS, move || {
         let lines = elements.chunks_exact(given);
         let lines = lines.zip(output.chunks_exact_mut(made));
-        let answers =
-            lines.map(|(given, made)| job(black_box(numbers), black_box(given), black_box(made)));
+        let mut cuts = 0;
+        let answers = lines.map(|(given, made)| {
+            job(
+                black_box(numbers),
+                black_box(given),
+                black_box(made),
+                black_box(&mut cuts),
+            )
+        });
         answers.sum()
     })
 }

@@ -21,7 +21,7 @@ pub fn all(before: Option<&Before>) -> Result<Vec<Case>, String> {
         values::cases(before)?,
         fields::cases()?,
         lines::cases(before)?,
-        colors::cases()?,
+        colors::cases(before)?,
         cards::cases()?,
         history::cases()?,
     ];

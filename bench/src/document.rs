@@ -2,16 +2,23 @@
 
 use std::env;
 
-use crate::case::LENGTHS;
+use crate::case::{BEFORE_LENGTHS, LENGTHS};
 use crate::inputs::POINTS;
 use crate::machine;
 use crate::stack_use;
 use crate::table::{MOST_APART, MOST_GROWTH};
 use crate::ROUNDS;
 
-const BEFORE: &str = "
-- *before*, *before at 1*: how many times as long the library takes as it did in an earlier state, whose archive was measured in the
-  same rounds, along a whole line and in lines of one point; again medians of the rounds' ratios. Empty where an entry is not compared.";
+/// What is said of an earlier library.
+fn of_before() -> String {
+    let lengths = BEFORE_LENGTHS.map(|length| length.to_string()).join(", ");
+    format!(
+        "
+- *before*, *before at {lengths}*: how many times as long the library takes as it did in an earlier state, whose archive was
+  measured in the same rounds, along a whole line and in lines of so many points; again medians of the rounds' ratios. Empty
+  where an entry is not compared. An earlier state may count no cuts, and so do less."
+    )
+}
 
 pub fn text(load: &str, table: &str, verdict: &str, before: bool) -> String {
     let told = |name| env::var(name).unwrap_or_else(|_| "unknown".to_string());
@@ -23,7 +30,7 @@ pub fn text(load: &str, table: &str, verdict: &str, before: bool) -> String {
     let machine = machine::kind();
     let lengths = LENGTHS.map(|length| length.to_string()).join(", ");
     let limit = stack_use::LIMIT;
-    let before = if before { BEFORE } else { "" };
+    let before = if before { of_before() } else { String::new() };
     format!(
         "# Performance
 
@@ -40,7 +47,7 @@ Written by `bench/run --write`, from one run; `bench/run` alone prints the same 
 - *a*, *library*, *plain*, *ratio*: nanoseconds a point of a line of {POINTS} points, or a call, by the library and by
   plain Rust that does the same job with the same refusals, and how many times as long the library takes. Medians of {ROUNDS}
   rounds; both are measured one after the other in each round, and the ratio is the median of the rounds' ratios. Before
-  that both are run on every input, refused ones too, and must give the same answers and outputs.
+  that both are run on every input, refused ones too, and must give the same answers, outputs and numbers of cuts.
 - *setting*: a line is in narrow range where none is named; older full is range 3. Where bits are *at* given
   offsets, fields reach into a third byte: they have 2, 3 and 2 bytes in a point of 5, and 3 each in one of 8. In the other
   layouts of lines all three have 1 byte (8 bits) or 2.
@@ -69,8 +76,8 @@ were a bare number, the compiler would take it for 1, and make a loop of four po
 step would be left to a loop of one point at a time. It does not try that with a sum.
 
 *Encoding* is one product and one sum in f64: t = v span + (base + 4096.5). v is an f32 of 24 digits and span has 13 at most, so
-that the product is exact. Two comparisons bring t to low + 4096 .. high + 4096. From 4096 to below 8192 an f64 has 40 digits below the
-binary point, and the code is bits 40 to 51 of its pattern: no cast, no division. The sum is the only step that can round. Say
+that the product is exact. Two comparisons bring t to its ends, from low + 4096 to below high + 4097. From 4096 to below 8192 an f64 has 40
+digits below the binary point, and the code is bits 40 to 51 of its pattern: no cast, no division. The sum is the only step that can round. Say
 that v is m 2^-k, with m below 2^24. If k is 40 or less, t is a multiple of 2^-40 and is held exactly. If k is more, v is below
 2^24 2^-41, and the product below 2^12 2^-17 = 1/32; base + 4096.5 lies halfway between two whole numbers, so that t lies
 within 1/32 of there, and rounding it by 2^-41 at most leads to no other whole number. The code is the whole part of t, so it is
@@ -81,6 +88,10 @@ has, over e, the base, 1/2 for the rounding, and 4096. All products and sums sta
 2^40. A fraction with such a divisor that is no whole number is at least 2^-40 below the next one. The f64 nearest to it, which is
 a multiple of 2^-40 between 4096 and 8192, can then not pass that whole number, and whole numbers are held: so the whole part
 stays; and what lies outside the ends is brought to them. G' from narrow codes has its common factors taken out beforehand, since its sums would pass 2^53.
+
+*Cuts* are one comparison more: whether bringing t to its ends changed it. For that the upper end is high + 4097 - 2^-40, the last f64
+whose whole part is the highest code, and the lower one low + 4096, or in full range, where -1/2 is cut, the f64 after it. The cuts of
+eight points are added up in 64 bits, as the codes are made; in 32 the compiler would have to narrow each comparison.
 "
     )
 }

@@ -31,7 +31,7 @@ pub fn smooth(layout: Numbers) -> Forms {
         })
         .collect();
     let mut packed = vec![0; packed_length(layout)];
-    lines::encode_line(layout, &values, &mut packed);
+    lines::encode_line(layout, &values, &mut packed, &mut 0);
     let mut codes = vec![0; 3 * POINTS];
     lines::unpack_line(layout, &packed, &mut codes);
     Forms {
@@ -66,7 +66,7 @@ pub fn smooth_colors(primaries: u8, depth: u8, range: u8) -> [Vec<u16>; 2] {
         })
         .collect();
     let mut ycbcr = vec![0; rgb.len()];
-    colors::rgb_to_ycbcr([primaries, depth, range, range], &rgb, &mut ycbcr);
+    colors::rgb_to_ycbcr([primaries, depth, range, range], &rgb, &mut ycbcr, &mut 0);
     [rgb, ycbcr]
 }
 

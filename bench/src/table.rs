@@ -1,6 +1,6 @@
 //! The table of all entries.
 
-use crate::case::{Case, LENGTHS};
+use crate::case::{Case, BEFORE_LENGTHS, LENGTHS};
 use crate::stack_use;
 
 /// A longer line may cost so many times as much a point, for the clock's sake.
@@ -28,8 +28,9 @@ const HEAD: [&str; 14] = [
     "stack",
 ];
 
-/// Columns that are shown only where there is an earlier library.
-const BEFORE: [&str; 2] = ["before", "before at 1"];
+/// Columns that are shown only where there is an earlier library; the second is one for
+/// each of its lengths.
+const BEFORE: [&str; 2] = ["before", "before at lengths"];
 
 /// The first columns are words, the others numbers.
 const WORDS: usize = 4;
@@ -128,7 +129,7 @@ impl Row<'_> {
         cells.push(times(self.growth()));
         cells.push(times(case.ratio_short()));
         if before {
-            cells.push(times(case.before_short()));
+            cells.extend(case.before_lengths().map(times));
         }
         cells.push(self.stack().to_string());
         cells
@@ -210,6 +211,8 @@ fn head(before: bool) -> Vec<String> {
         }
         if name == "lengths" {
             head.extend(LENGTHS.map(|length| format!("at {length}")));
+        } else if name == BEFORE[1] {
+            head.extend(BEFORE_LENGTHS.map(|length| format!("before at {length}")));
         } else {
             head.push(name.to_string());
         }

@@ -1,7 +1,7 @@
 /* Finds an item in a stack of cards, shows its facts, writes and reads the
- * descriptor of its layout, turns a line of its points into colors, reads one channel
- * of it alone, and sends codes to the ends of its range. Then turns a line of an early
- * capture into colors, and writes its card.
+ * descriptor of its layout, turns a line of its points into colors, reads one
+ * channel of it alone, sends codes to the ends of its range and tells how many were
+ * cut. Then turns a line of an early capture into colors, and writes its card.
  * Usage: example STACK */
 #include <imurraqi.h>
 
@@ -67,14 +67,16 @@ static void show_line(const uint8_t *descriptor, size_t len)
     uint8_t layout[8];
     uint16_t codes[CODES], colors[CODES];
     float values[CODES];
+    uint32_t cuts;
     good(imurraqi_descriptor_read(descriptor, len, layout));
     good(imurraqi_unpack_line(layout, packed, sizeof packed, codes, CODES));
     good(imurraqi_ycbcr_to_rgb(layout[PRIMARIES], layout[DEPTH], layout[RANGE],
-                               FULL, codes, CODES, colors, CODES));
+                               FULL, codes, CODES, colors, CODES, &cuts));
     good(imurraqi_decode_line(layout, packed, sizeof packed, values, CODES));
     printf("points of %d bits a channel in %d bytes\n", layout[DEPTH],
            layout[BYTES]);
     show_points(codes, values, colors, CODES);
+    printf("cut: %d of %d codes of R'G'B'\n", (int)cuts, CODES);
 }
 
 /* The Cr of each point, without the other channels: only the bytes that hold its
@@ -94,21 +96,23 @@ static void show_fields(const uint8_t layout[8])
 }
 
 /* Codes beyond the ends of narrow range, which video keeps for timing. They are
- * packed and decoded as they are, but encoding makes the nearer end of them. */
+ * packed and decoded as they are, but encoding makes the nearer end of them, and
+ * tells how many it cut so. */
 static void show_ends(const uint8_t layout[8])
 {
     static const uint16_t codes[3] = {1023, 0, 512};
     uint16_t made[3];
     float values[3];
     uint8_t point[8];
+    uint32_t cuts;
     size_t len = layout[BYTES];
     good(imurraqi_pack_line(layout, codes, 3, point, len));
     good(imurraqi_decode_point(layout, point, len, values));
     good(imurraqi_encode_point(layout, values[0], values[1], values[2], point,
-                               len));
+                               len, &cuts));
     good(imurraqi_unpack_line(layout, point, len, made, 3));
-    printf("Y'CbCr %d %d %d decoded and encoded: %d %d %d\n", codes[0],
-           codes[1], codes[2], made[0], made[1], made[2]);
+    printf("Y'CbCr %d %d %d decoded and encoded: %d %d %d, cut: %d\n", codes[0],
+           codes[1], codes[2], made[0], made[1], made[2], (int)cuts);
 }
 
 /* An early capture in today's full range, and its card. Edition 3 has its range;
@@ -118,6 +122,7 @@ static void show_early(void)
     uint8_t card[CARD], layout[8];
     uint16_t codes[EARLY_CODES], colors[EARLY_CODES];
     float values[EARLY_CODES];
+    uint32_t cuts;
     uint64_t facts[4];
     good(imurraqi_unpack_line(early_layout, early, sizeof early, codes,
                               EARLY_CODES));
@@ -125,7 +130,7 @@ static void show_early(void)
                               EARLY_CODES));
     good(imurraqi_ycbcr_to_rgb(early_layout[PRIMARIES], early_layout[DEPTH],
                                LEGACY_FULL, FULL, codes, EARLY_CODES, colors,
-                               EARLY_CODES));
+                               EARLY_CODES, &cuts));
     printf("an early capture\n");
     show_points(codes, values, colors, EARLY_CODES);
     printf("its card at edition 2: %d\n",

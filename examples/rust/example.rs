@@ -1,7 +1,7 @@
 //! Finds an item in a stack of cards, shows its facts, writes and reads the
 //! descriptor of its layout, turns a line of its points into colors, reads one channel
-//! of it alone, and sends codes to the ends of its range. Then turns a line of an early
-//! capture into colors, and writes its card.
+//! of it alone, sends codes to the ends of its range and tells how many were cut. Then
+//! turns a line of an early capture into colors, and writes its card.
 //! Usage: example STACK
 
 use imurraqi::{access, model, primaries, range};
@@ -60,11 +60,12 @@ fn show_line(descriptor: &[u8]) -> Result<(), Refusal> {
     let (mut codes, mut colors, mut values) = ([0; CODES], [0; CODES], [0.0; CODES]);
     let layout = imurraqi::descriptor_read(descriptor)?;
     imurraqi::unpack_line(layout, &PACKED, &mut codes)?;
-    imurraqi::ycbcr_to_rgb(layout.conversion(range::FULL), &codes, &mut colors)?;
+    let made = imurraqi::ycbcr_to_rgb(layout.conversion(range::FULL), &codes, &mut colors)?;
     imurraqi::decode_line(layout, &PACKED, &mut values)?;
     let (depth, bytes) = (layout.depth, layout.bytes);
     println!("points of {depth} bits a channel in {bytes} bytes");
     show_points(&codes, &values, &colors);
+    println!("cut: {} of {CODES} codes of R'G'B'", made.cuts);
     Ok(())
 }
 
@@ -83,17 +84,19 @@ fn show_fields(layout: Layout) -> Result<(), Refusal> {
 }
 
 /// Codes beyond the ends of narrow range, which video keeps for timing. They are
-/// packed and decoded as they are, but encoding makes the nearer end of them.
+/// packed and decoded as they are, but encoding makes the nearer end of them, and tells
+/// how many it cut so.
 fn show_ends(layout: Layout) -> Result<(), Refusal> {
     let codes = [1023, 0, 512];
     let mut point = vec![0; layout.bytes.into()];
     imurraqi::pack_line(layout, &codes, &mut point)?;
     let values = imurraqi::decode_point(layout, &point)?;
-    imurraqi::encode_point(layout, values, &mut point)?;
+    let cuts = imurraqi::encode_point(layout, values, &mut point)?.cuts;
     let mut made = [0; 3];
     imurraqi::unpack_line(layout, &point, &mut made)?;
     let ([y, cb, cr], [y_made, cb_made, cr_made]) = (codes, made);
-    println!("Y'CbCr {y} {cb} {cr} decoded and encoded: {y_made} {cb_made} {cr_made}");
+    print!("Y'CbCr {y} {cb} {cr} decoded and encoded: ");
+    println!("{y_made} {cb_made} {cr_made}, cut: {cuts}");
     Ok(())
 }
 

@@ -5,10 +5,18 @@
 
 use crate::float;
 use crate::layout::Layout;
-use crate::quantization;
+use crate::quantization::{self, Quantized};
 use crate::refusal::Refusal;
 
 pub const MOST_POINTS: usize = 4096;
+
+/// What is answered where codes are clamped: the count of points, and how many of the
+/// line's values were cut.
+#[derive(Clone, Copy, Debug, Default, PartialEq, Eq)]
+pub struct Counts {
+    pub points: usize,
+    pub cuts: usize,
+}
 
 /// Fills `codes` from packed points, three codes a point. Answers the count of
 /// points, as the other lines do.
@@ -60,18 +68,22 @@ pub fn decode_point(layout: [u8; 8], bytes: &[u8]) -> Result<[u32; 3], Refusal> 
 }
 
 /// Fills `packed` with the points that hold the codes of these floats, which are
-/// given by their bits.
-pub fn encode_line(layout: [u8; 8], values: &[u32], packed: &mut [u8]) -> Result<usize, Refusal> {
+/// given by their bits. The places that are cut are those where a value by itself is.
+pub fn encode_line(layout: [u8; 8], values: &[u32], packed: &mut [u8]) -> Result<Counts, Refusal> {
     let layout = Layout::new(layout)?;
     let count = count(layout, packed.len(), values.len())?;
     let scales = [0, 1, 2].map(|channel| layout.scale(channel));
-    let codes = values
+    let quantized = values
         .iter()
         .zip(scales.iter().cycle())
-        .map(|(&bits, &scale)| quantization::code(scale, bits))
-        .collect::<Result<Vec<u16>, Refusal>>()?;
+        .map(|(&bits, &scale)| quantization::quantized(scale, bits))
+        .collect::<Result<Vec<Quantized>, Refusal>>()?;
+    let codes: Vec<u16> = quantized.iter().map(|value| value.code).collect();
     packed.copy_from_slice(&points(layout, &codes));
-    Ok(count)
+    Ok(Counts {
+        points: count,
+        cuts: cuts(&quantized),
+    })
 }
 
 /// As a line of exactly one point; any other length is refused.
@@ -79,8 +91,13 @@ pub fn encode_point(
     layout: [u8; 8],
     values: [u32; 3],
     packed: &mut [u8],
-) -> Result<usize, Refusal> {
+) -> Result<Counts, Refusal> {
     encode_line(layout, &values, packed)
+}
+
+/// How many of these were cut.
+pub fn cuts(quantized: &[Quantized]) -> usize {
+    quantized.iter().filter(|value| value.cut).count()
 }
 
 /// The count of points, for a line with so many packed bytes and, on its other
@@ -137,4 +154,29 @@ fn number(bytes: &[u8]) -> u64 {
 /// The bytes of a point, from the lowest.
 fn bytes(layout: Layout, point: u64) -> impl Iterator<Item = u8> {
     (0..layout.point_bytes()).map(move |place| (point >> (8 * place)) as u8)
+}
+
+#[cfg(test)]
+mod tests {
+    use super::{encode_line, encode_point, Counts};
+    use crate::refusal::Refusal;
+
+    /// Narrow Y'CbCr of 8 bits, a byte each.
+    const LAYOUT: [u8; 8] = [2, 1, 1, 8, 3, 0, 8, 16];
+
+    #[test]
+    fn the_cuts_of_a_line() {
+        // 16 + 219 * 2 = 454 and 128 - 224 = -96; 235, 240 and 16 are no ends.
+        let beyond = [2.0, -1.0, f32::INFINITY].map(f32::to_bits);
+        let inside = [1.0, 0.5, -0.5].map(f32::to_bits);
+        let counts = |points, cuts| Ok(Counts { points, cuts });
+        let mut packed = [0; 6];
+        let values = [inside, beyond].concat();
+        assert_eq!(encode_line(LAYOUT, &values, &mut packed), counts(2, 3));
+        assert_eq!(packed, [235, 240, 16, 254, 1, 254]);
+        assert_eq!(encode_point(LAYOUT, inside, &mut packed[..3]), counts(1, 0));
+        assert_eq!(encode_line(LAYOUT, &[], &mut []), counts(0, 0));
+        let refused = encode_line(LAYOUT, &beyond, &mut packed);
+        assert_eq!(refused, Err(Refusal::Length));
+    }
 }

@@ -42,7 +42,9 @@ CONVERSION  primaries, depth, range of the given codes, range of the codes made,
 EDITION     1, 2 or 3
 ACCESS      0 closed, 1 community, 2 open
 BYTES       hexadecimal digits, two a byte: packed points, the bytes of a field, or a
-            descriptor, a card or a stack to read";
+            descriptor, a card or a stack to read
+quantize, encode, ycbcr and rgb also tell how many values were cut: those whose rounded
+number lay outside the span to which it is clamped, and infinities";
 
 fn main() -> ExitCode {
     let arguments: Vec<String> = env::args().skip(1).collect();
@@ -69,14 +71,14 @@ fn answer(arguments: &[&str]) -> Option<Result<String, Refusal>> {
             code.parse().ok()?,
         )),
         ["quantize", model, range, depth, channel, value] => {
-            let code = quantization::quantize(
+            let quantized = quantization::quantize(
                 model.parse().ok()?,
                 range.parse().ok()?,
                 depth.parse().ok()?,
                 channel.parse().ok()?,
                 float_bits(value)?,
             );
-            Some(code.map(|code| code.to_string()))
+            Some(quantized.map(|made| with_cuts(&made.code.to_string(), made.cut.into())))
         }
         ["field-bytes", layout, channel] => {
             let bytes = fields::bytes(numbers(layout)?, channel.parse().ok()?);
@@ -96,14 +98,14 @@ fn answer(arguments: &[&str]) -> Option<Result<String, Refusal>> {
         ["ycbcr", conversion, ref given @ ..] => {
             let rgb = codes(given)?;
             let mut ycbcr = vec![0; rgb.len()];
-            let count = color::rgb_to_ycbcr(numbers(conversion)?, &rgb, &mut ycbcr);
-            Some(count.map(|_| separated(&ycbcr, " ")))
+            let counts = color::rgb_to_ycbcr(numbers(conversion)?, &rgb, &mut ycbcr);
+            Some(counts.map(|counts| with_cuts(&separated(&ycbcr, " "), counts.cuts)))
         }
         ["rgb", conversion, ref given @ ..] => {
             let ycbcr = codes(given)?;
             let mut rgb = vec![0; ycbcr.len()];
-            let count = color::ycbcr_to_rgb(numbers(conversion)?, &ycbcr, &mut rgb);
-            Some(count.map(|_| separated(&rgb, " ")))
+            let counts = color::ycbcr_to_rgb(numbers(conversion)?, &ycbcr, &mut rgb);
+            Some(counts.map(|counts| with_cuts(&separated(&rgb, " "), counts.cuts)))
         }
         ["write", layout] => Some(write(numbers(layout)?)),
         ["read", descriptor] => {
@@ -176,8 +178,13 @@ fn decode(layout: [u8; 8], packed: &[u8]) -> Result<String, Refusal> {
 
 fn encode(layout: [u8; 8], values: &[u32]) -> Result<String, Refusal> {
     let mut packed = vec![0; values.len() / 3 * bytes_a_point(layout)];
-    lines::encode_line(layout, values, &mut packed)?;
-    Ok(hexadecimal(&packed))
+    let counts = lines::encode_line(layout, values, &mut packed)?;
+    Ok(with_cuts(&hexadecimal(&packed), counts.cuts))
+}
+
+/// What was made, and how many of its values were cut.
+fn with_cuts(made: &str, cuts: usize) -> String {
+    format!("{made}, {cuts} cut")
 }
 
 fn write(layout: [u8; 8]) -> Result<String, Refusal> {

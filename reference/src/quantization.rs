@@ -29,6 +29,14 @@ pub struct Scale {
     pub kind: Kind,
 }
 
+/// A code, and whether it was cut: the rounded number lay outside the clamp's span. A
+/// number that is an end of the span lies within it.
+#[derive(Clone, Copy, Debug, PartialEq, Eq)]
+pub struct Quantized {
+    pub code: u16,
+    pub cut: bool,
+}
+
 /// The kind of the channel and the bits of the float nearest the code's value.
 pub fn dequantize(
     model: u8,
@@ -45,21 +53,31 @@ pub fn dequantize(
     Ok((scale.kind, float::nearest(scale.value(code))))
 }
 
-/// The code of the float with these bits.
-pub fn quantize(model: u8, range: u8, depth: u8, channel: u8, bits: u32) -> Result<u16, Refusal> {
-    code(Scale::new(model, range, depth, channel)?, bits)
+/// The code of the float with these bits, and whether it was cut.
+pub fn quantize(
+    model: u8,
+    range: u8,
+    depth: u8,
+    channel: u8,
+    bits: u32,
+) -> Result<Quantized, Refusal> {
+    quantized(Scale::new(model, range, depth, channel)?, bits)
 }
 
-/// The code of the float with these bits on a scale.
-pub fn code(scale: Scale, bits: u32) -> Result<u16, Refusal> {
+/// The same on a scale. An infinity is the end on its side, and always cut.
+pub fn quantized(scale: Scale, bits: u32) -> Result<Quantized, Refusal> {
+    let infinite = |end| Quantized {
+        code: scale.clamp(end),
+        cut: true,
+    };
     match float::value(bits) {
         Value::NotANumber => Err(Refusal::NotANumber),
-        Value::PlusInfinity => Ok(scale.clamp(scale.top())),
-        Value::MinusInfinity => Ok(scale.clamp(scale.bottom())),
+        Value::PlusInfinity => Ok(infinite(scale.top())),
+        Value::MinusInfinity => Ok(infinite(scale.bottom())),
         Value::Finite {
             significand,
             exponent,
-        } => Ok(scale.clamp(scale.number(same_code_fraction(significand, exponent)))),
+        } => Ok(scale.clamped(scale.number(same_code_fraction(significand, exponent)))),
     }
 }
 
@@ -120,8 +138,16 @@ impl Scale {
         }
     }
 
+    /// The code of a rounded number, and whether that lay outside the clamp's span.
+    pub fn clamped(self, number: i128) -> Quantized {
+        Quantized {
+            code: self.clamp(number),
+            cut: number < self.bottom() || self.top() < number,
+        }
+    }
+
     /// The nearest code to a whole number, of those that are ever made.
-    pub fn clamp(self, number: i128) -> u16 {
+    fn clamp(self, number: i128) -> u16 {
         number.clamp(self.bottom(), self.top()) as u16
     }
 
@@ -229,16 +255,18 @@ fn two_to(power: u32) -> i128 {
 }
 
 /// A finite float's value as a fraction, or, where that would not fit in 128
-/// bits, another fraction that has the same code on every scale.
+/// bits, another fraction that has the same code on every scale, and is cut there
+/// if the float is.
 ///
 /// Each of the six lines rounds w + kv, where w is a whole number from 0 to
 /// 2^(n-1) and k is 219s, 224s, m or 2^n, which is from 219 to 4096.
 ///
 /// - An exponent under -90 makes |v| < 2^24 * 2^-90, so |kv| < 1/2 by far, and
-///   w + kv rounds to w. So does w + k * 0: zero has the same code.
+///   w + kv rounds to w. So does w + k * 0: zero has the same number, and so the
+///   same code and the same cut.
 /// - An exponent above 60 makes |v| >= 2^23 * 2^61, since only field 0 has
 ///   significands under 2^23. So |kv| is far above w + 2^n, and w + kv is
-///   clamped to the top or, if v is negative, to the bottom. The same holds of
+///   cut to the top or, if v is negative, to the bottom. The same holds of
 ///   2^60 in the place of |v|.
 ///
 /// Between the two, the fraction is exactly the float. Its numerator is then
@@ -255,11 +283,20 @@ fn same_code_fraction(significand: i128, exponent: i32) -> Fraction {
 
 #[cfg(test)]
 mod tests {
-    use super::{dequantize, quantize, Kind};
+    use super::{dequantize, quantize, Kind, Quantized};
     use crate::refusal::Refusal;
 
     const INFINITY: u32 = 0x7f80_0000;
     const MINUS_INFINITY: u32 = 0xff80_0000;
+
+    /// A code that was not cut, and one that was.
+    fn whole(code: u16) -> Result<Quantized, Refusal> {
+        Ok(Quantized { code, cut: false })
+    }
+
+    fn cut(code: u16) -> Result<Quantized, Refusal> {
+        Ok(Quantized { code, cut: true })
+    }
 
     #[test]
     fn the_ends_of_narrow_range() {
@@ -269,22 +306,29 @@ mod tests {
                     let (_, bits) = dequantize(2, 1, depth, channel, code).expect("a code");
                     quantize(2, 1, depth, channel, bits)
                 };
-                assert_eq!(quantize(2, 1, depth, channel, INFINITY), Ok(high));
-                assert_eq!(quantize(2, 1, depth, channel, MINUS_INFINITY), Ok(low));
+                assert_eq!(quantize(2, 1, depth, channel, INFINITY), cut(high));
+                assert_eq!(quantize(2, 1, depth, channel, MINUS_INFINITY), cut(low));
                 for inside in [low, low + 1, high - 1, high] {
-                    assert_eq!(back(inside), Ok(inside));
+                    assert_eq!(back(inside), whole(inside));
                 }
                 for under in 0..low {
-                    assert_eq!(back(under), Ok(low));
+                    assert_eq!(back(under), cut(low));
                 }
                 for above in high + 1..1 << depth {
-                    assert_eq!(back(above), Ok(high));
+                    assert_eq!(back(above), cut(high));
                 }
             }
         }
         // 16 + 219 * 1.25 = 289.75, and 128 - 224 * 0.75 = -40.
-        assert_eq!(quantize(1, 1, 8, 0, 1.25_f32.to_bits()), Ok(254));
-        assert_eq!(quantize(2, 1, 8, 1, (-0.75_f32).to_bits()), Ok(1));
+        assert_eq!(quantize(1, 1, 8, 0, 1.25_f32.to_bits()), cut(254));
+        assert_eq!(quantize(2, 1, 8, 1, (-0.75_f32).to_bits()), cut(1));
+        // 4 (128 + 224 * 145/256) = 1019.5, which is rounded up, past the end.
+        let tie = 145.0_f32 / 256.0;
+        assert_eq!(quantize(2, 1, 10, 1, tie.to_bits()), cut(1019));
+        assert_eq!(
+            quantize(2, 1, 10, 1, tie.next_down().to_bits()),
+            whole(1019)
+        );
         assert_eq!(dequantize(1, 1, 8, 0, 256), Err(Refusal::CodeTooHigh));
     }
 
@@ -295,27 +339,47 @@ mod tests {
         let difference = (Kind::Difference, 0.28125_f32.to_bits());
         assert_eq!(dequantize(2, 3, 8, 0, 200), Ok(brightness));
         assert_eq!(dequantize(2, 3, 8, 1, 200), Ok(difference));
-        assert_eq!(quantize(2, 3, 8, 0, brightness.1), Ok(200));
-        assert_eq!(quantize(2, 3, 8, 1, difference.1), Ok(200));
+        assert_eq!(quantize(2, 3, 8, 0, brightness.1), whole(200));
+        assert_eq!(quantize(2, 3, 8, 1, difference.1), whole(200));
         // Half a code is rounded up: 1/512 is half of 1/256.
-        assert_eq!(quantize(1, 3, 8, 0, (1.0_f32 / 512.0).to_bits()), Ok(1));
-        assert_eq!(quantize(2, 3, 8, 2, (-0.5_f32).to_bits()), Ok(0));
+        let half = 1.0_f32 / 512.0;
+        assert_eq!(quantize(1, 3, 8, 0, half.to_bits()), whole(1));
+        assert_eq!(quantize(2, 3, 8, 2, (-0.5_f32).to_bits()), whole(0));
+        // So -1/2 is 0, and not cut.
+        assert_eq!(quantize(1, 3, 8, 0, (-half).to_bits()), whole(0));
+        assert_eq!(quantize(1, 3, 8, 0, (-half).next_down().to_bits()), cut(0));
         assert_eq!(quantize(2, 4, 8, 2, 0), Err(Refusal::Outside));
     }
 
     #[test]
     fn the_top_of_the_older_full_range() {
         for (depth, top) in [(8, 255), (10, 1023), (12, 4092)] {
-            assert_eq!(quantize(1, 3, depth, 0, 1.0_f32.to_bits()), Ok(top));
-            assert_eq!(quantize(2, 3, depth, 1, 0.5_f32.to_bits()), Ok(top));
-            assert_eq!(quantize(1, 3, depth, 2, INFINITY), Ok(top));
+            assert_eq!(quantize(1, 3, depth, 0, 1.0_f32.to_bits()), cut(top));
+            assert_eq!(quantize(2, 3, depth, 1, 0.5_f32.to_bits()), cut(top));
+            assert_eq!(quantize(1, 3, depth, 2, INFINITY), cut(top));
         }
-        for code in 4093..=4095_u16 {
+        for code in 4092..=4095_u16 {
             let value = f32::from(code) / 4096.0;
             let decoded = dequantize(1, 3, 12, 0, code);
             assert_eq!(decoded, Ok((Kind::Brightness, value.to_bits())));
-            assert_eq!(quantize(1, 3, 12, 0, value.to_bits()), Ok(4092));
+            let back = if code > 4092 { cut } else { whole };
+            assert_eq!(quantize(1, 3, 12, 0, value.to_bits()), back(4092));
         }
         assert_eq!(dequantize(1, 3, 12, 0, 4096), Err(Refusal::CodeTooHigh));
+    }
+
+    #[test]
+    fn the_ends_of_full_range() {
+        // M4 is 256, M5 is 1/2 rounded up, M6 is -63.75.
+        assert_eq!(quantize(2, 2, 8, 1, 0.5_f32.to_bits()), cut(255));
+        assert_eq!(quantize(2, 2, 8, 1, (-0.5_f32).to_bits()), whole(1));
+        assert_eq!(quantize(1, 2, 8, 0, (-0.25_f32).to_bits()), cut(0));
+        // 255 * 256/255 is 256; a float beside it is not far from there.
+        assert_eq!(
+            quantize(1, 2, 8, 0, (256.0_f32 / 255.0).to_bits()),
+            cut(255)
+        );
+        assert_eq!(quantize(1, 2, 8, 0, 1.0_f32.to_bits()), whole(255));
+        assert_eq!(quantize(1, 2, 8, 0, 0), whole(0));
     }
 }

@@ -2,15 +2,17 @@
 //! the parts that choose what to compare.
 
 use reference::color;
+use reference::lines::Counts;
 use reference::refusal::Refusal;
 
+use crate::clamped::{counted, Clamped};
 use crate::guarded::{Guarded, Outcome};
 use crate::layouts::RANGES;
 use crate::library::{Conversion, Direction, Library};
-use crate::lines::answer;
 use crate::part::{part, Part};
 use crate::tally::{Flow, Tally};
 
+mod cuts;
 mod examples;
 pub mod exhaustive;
 mod inputs;
@@ -28,12 +30,21 @@ pub const PARTS: &[Part] = &[
     part("colors, one number at a time", refusals::single),
     part("colors, corners", values::corners),
     part("colors, greatest codes and above", refusals::codes),
+    part("colors, cuts in each place", cuts::short_lines),
+    part("colors, cuts in long lines", cuts::long_lines),
+    part("colors, cuts point by point", cuts::by_single_points),
     part("colors, numbers in pairs", refusals::pairs),
     part("colors, beyond 4,096 points", lengths::too_many_points),
     part("colors, lengths around 4,096", lengths::long_lines),
     part("colors, random at 10 and 12 bits", values::random),
     part("colors, grid at 8 bits", values::in_steps),
 ];
+
+/// The part that goes through a whole domain.
+pub const WHOLE_PARTS: &[Part] = &[part(
+    "colors, one conversion whole",
+    exhaustive::one_conversion,
+)];
 
 /// The parts that need no library.
 pub const REFERENCE_PARTS: &[Part] = &[part("printed matrices", printed::document_003)];
@@ -69,14 +80,10 @@ pub fn expected_convert(
     direction: Direction,
     conversion: Conversion,
     codes: &mut Guarded<u16>,
-    out: &mut Guarded<u16>,
+    out: &mut Clamped<u16>,
 ) -> i64 {
-    answer(converted(
-        direction,
-        conversion,
-        codes.elements(),
-        out.output(),
-    ))
+    let counts = converted(direction, conversion, codes.elements(), out.output());
+    counted(counts, &mut out.cuts)
 }
 
 /// The reference's conversion of a line.
@@ -85,14 +92,14 @@ pub fn converted(
     conversion: Conversion,
     codes: &[u16],
     out: &mut [u16],
-) -> Result<usize, Refusal> {
+) -> Result<Counts, Refusal> {
     match direction {
         Direction::RgbToYcbcr => color::rgb_to_ycbcr(conversion, codes, out),
         Direction::YcbcrToRgb => color::ycbcr_to_rgb(conversion, codes, out),
     }
 }
 
-/// The library's answer and output against the reference's. The codes, and what
+/// The library's answer, output and cuts against the reference's. The codes, and what
 /// lies beside them, must stay as they are.
 fn compare(
     library: &Library,
@@ -104,11 +111,12 @@ fn compare(
 ) -> Flow {
     let lent = Guarded::holding(codes);
     let mut codes_after = lent.clone();
-    let outcome = Outcome::of(length, |out| {
+    let outcome = Outcome::with_cuts(length, |out| {
         library.convert(direction, conversion, &mut codes_after, out)
     });
-    let expected = Outcome::of(length, |out| {
-        answer(converted(direction, conversion, codes, out.output()))
+    let expected = Outcome::with_cuts(length, |out| {
+        let counts = converted(direction, conversion, codes, out.output());
+        counted(counts, &mut out.cuts)
     });
     let kept = codes_after == lent;
     tally.compare(outcome == expected && kept, || {

@@ -2,6 +2,9 @@
 
 use std::fmt::Debug;
 
+use crate::clamped::Clamped;
+use crate::library::{Slot, EMPTY_SLOT};
+
 const GUARD_BYTES: usize = 16;
 
 /// An output, or lent elements, among guards of 16 bytes, so that a write beside
@@ -99,6 +102,8 @@ pub struct Whole<'a, T> {
 pub struct Outcome<T> {
     pub answer: i64,
     pub output: Guarded<T>,
+    /// Only a call that clamps is lent these.
+    pub cuts: Slot,
 }
 
 impl<T: Element> Outcome<T> {
@@ -106,12 +111,30 @@ impl<T: Element> Outcome<T> {
     pub fn of(length: usize, call: impl FnOnce(&mut Guarded<T>) -> i64) -> Outcome<T> {
         let mut output = Guarded::new(length);
         let answer = call(&mut output);
-        Outcome { answer, output }
+        Outcome {
+            answer,
+            output,
+            cuts: EMPTY_SLOT,
+        }
     }
 
-    /// The answers, and the first elements that differ.
+    /// The same of a call that clamps.
+    pub fn with_cuts(length: usize, call: impl FnOnce(&mut Clamped<T>) -> i64) -> Outcome<T> {
+        let mut clamped = Clamped::new(length);
+        let answer = call(&mut clamped);
+        Outcome {
+            answer,
+            output: clamped.made,
+            cuts: clamped.cuts,
+        }
+    }
+
+    /// The answers, the cuts if they differ, and the first elements that differ.
     pub fn unlike(&self, expected: &Outcome<T>) -> String {
-        let answers = format!("answer {}, must be {}", self.answer, expected.answer);
+        let mut answers = format!("answer {}, must be {}", self.answer, expected.answer);
+        if self.cuts != expected.cuts {
+            answers += &format!("; cuts {:x?}, must be {:x?}", self.cuts, expected.cuts);
+        }
         let pairs = self.output.memory.iter().zip(&expected.output.memory);
         let mut places = (0..).zip(pairs);
         match places.find(|(_, (element, must_be))| element != must_be) {

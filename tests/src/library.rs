@@ -2,6 +2,7 @@
 
 use imurraqi::ffi;
 
+use crate::clamped::Clamped;
 use crate::guarded::{Guarded, Whole};
 
 use self::card::{CardRead, CardRewrite, CardWrite, StackFind};
@@ -39,25 +40,42 @@ pub enum Direction {
 
 /// A conversion of codes into an output. The codes too lie among guards: they are
 /// lent, and must be left as they are.
-pub type Convert = fn(Direction, Conversion, &mut Guarded<u16>, &mut Guarded<u16>) -> i64;
+pub type Convert = fn(Direction, Conversion, &mut Guarded<u16>, &mut Clamped<u16>) -> i64;
+
+/// The code of a float. The slot is for its number of cuts.
+pub type Quantize = fn(Setting, f32, &mut Slot) -> i64;
+
+pub type EncodeLine = fn(Layout, &[f32], &mut Clamped<u8>) -> i64;
+pub type EncodePoint = fn(Layout, [f32; 3], &mut Clamped<u8>) -> i64;
 
 /// What is told of the bytes of a channel's field, and the code in such bytes.
 pub type FieldBytes = fn(Layout, u8, &mut Guarded<u8>) -> i64;
 pub type FieldCode = fn(Layout, u8, &[u8]) -> i64;
 
-/// The float that dequantizing fills lies among guard words, so that a write
-/// beside it is seen.
+/// The float that dequantizing fills, or a number of cuts, lies among guard words, so
+/// that a write beside it is seen.
 pub type Slot = [u32; 5];
 
-/// The place of the float in its slot.
+/// The place of the float, or of the number, in its slot.
 pub const FLOAT: usize = 2;
+pub const CUTS: usize = 2;
+
+/// What a slot holds before a call. In the middle is a not-a-number, so no code's float,
+/// and more than any number of cuts.
+pub const EMPTY_SLOT: Slot = [
+    0x5a5a_5a5a,
+    0xc3c3_c3c3,
+    0x7fa5_a5a5,
+    0x3c3c_3c3c,
+    0xa5a5_a5a5,
+];
 
 /// The functions of the C interface, and the list. Being plain functions, they can
 /// be the library's own or, to try the tests themselves, those of a wrong program.
 #[derive(Clone, Copy)]
 pub struct Library {
     pub dequantize: fn(Setting, u16, &mut Slot) -> i64,
-    pub quantize: fn(Setting, f32) -> i64,
+    pub quantize: Quantize,
     /// The output is one byte.
     pub field_bytes: FieldBytes,
     pub field_code: FieldCode,
@@ -67,8 +85,8 @@ pub struct Library {
     pub decode_line: fn(Layout, &[u8], &mut Guarded<u32>) -> i64,
     /// The output has the length of a point.
     pub decode_point: fn(Layout, &[u8], &mut Guarded<u32>) -> i64,
-    pub encode_line: fn(Layout, &[f32], &mut Guarded<u8>) -> i64,
-    pub encode_point: fn(Layout, [f32; 3], &mut Guarded<u8>) -> i64,
+    pub encode_line: EncodeLine,
+    pub encode_point: EncodePoint,
     /// The output has the length of a layout.
     pub descriptor_read: fn(&[u8], &mut Guarded<u8>) -> i64,
     pub descriptor_write: fn(Layout, &mut Guarded<u8>) -> i64,
@@ -90,7 +108,7 @@ impl Library {
         direction: Direction,
         conversion: Conversion,
         codes: &mut Guarded<u16>,
-        out: &mut Guarded<u16>,
+        out: &mut Clamped<u16>,
     ) -> i64 {
         let convert = match direction {
             Direction::RgbToYcbcr => self.rgb_to_ycbcr,
@@ -129,7 +147,16 @@ pub const fn linked<M: Memory>() -> Library {
     }
 }
 
-type Converting = unsafe extern "C" fn(u8, u8, u8, u8, *const u16, usize, *mut u16, usize) -> i64;
+type Converting =
+    unsafe extern "C" fn(u8, u8, u8, u8, *const u16, usize, *mut u16, usize, *mut u32) -> i64;
+
+/// What is lent of a slot.
+fn whole(slot: &mut Slot) -> Whole<'_, u32> {
+    Whole {
+        memory: slot,
+        guard: FLOAT,
+    }
+}
 
 fn dequantize<M: Memory>(
     [model, range, depth, channel]: Setting,
@@ -137,19 +164,20 @@ fn dequantize<M: Memory>(
     slot: &mut Slot,
 ) -> i64 {
     let mut memory = M::of(Entry::Dequantize);
-    let slot = Whole {
-        memory: slot,
-        guard: FLOAT,
-    };
-    let value = memory.output(slot).cast();
+    let value = memory.output(whole(slot)).cast();
     // SAFETY: the pointer is to four aligned bytes that nothing else uses.
     memory.answered(unsafe { ffi::imurraqi_dequantize(model, range, depth, channel, code, value) })
 }
 
-fn quantize<M: Memory>([model, range, depth, channel]: Setting, value: f32) -> i64 {
-    // SAFETY: the function takes numbers alone.
-    M::of(Entry::Quantize)
-        .answered(unsafe { ffi::imurraqi_quantize(model, range, depth, channel, value) })
+fn quantize<M: Memory>(
+    [model, range, depth, channel]: Setting,
+    value: f32,
+    slot: &mut Slot,
+) -> i64 {
+    let mut memory = M::of(Entry::Quantize);
+    let cuts = memory.output(whole(slot));
+    // SAFETY: as for `dequantize`.
+    memory.answered(unsafe { ffi::imurraqi_quantize(model, range, depth, channel, value, cuts) })
 }
 
 fn descriptor_read<M: Memory>(bytes: &[u8], layout: &mut Guarded<u8>) -> i64 {
@@ -184,7 +212,7 @@ fn convert<M: Memory>(
     direction: Direction,
     [primaries, depth, range_in, range_out]: Conversion,
     codes: &mut Guarded<u16>,
-    out: &mut Guarded<u16>,
+    out: &mut Clamped<u16>,
 ) -> i64 {
     let (entry, convert): (_, Converting) = match direction {
         Direction::RgbToYcbcr => (Entry::RgbToYcbcr, ffi::imurraqi_rgb_to_ycbcr),
@@ -202,6 +230,7 @@ fn convert<M: Memory>(
             codes.length(),
             memory.output(out.whole()),
             out.length(),
+            memory.output(whole(&mut out.cuts)),
         )
     };
     memory.answered(answer)

@@ -4,6 +4,7 @@
 use reference::lines;
 use reference::refusal::Refusal;
 
+use crate::clamped::{counted, Clamped};
 use crate::guarded::{Guarded, Outcome};
 use crate::layouts::bytes_a_point;
 use crate::library::{Layout, Library};
@@ -11,6 +12,7 @@ use crate::part::{part, Part};
 use crate::quantization::refused;
 use crate::tally::{Flow, Tally};
 
+mod cuts;
 mod examples;
 pub mod inputs;
 mod lengths;
@@ -39,6 +41,9 @@ pub const PARTS: &[Part] = &[
     part("lines, layouts outside", refusals::layouts_outside),
     part("lines, beyond 4,096 points", lengths::too_many_points),
     part("encode, infinities", values::infinities),
+    part("encode, cuts in each place", cuts::short_lines),
+    part("encode, cuts in long lines", cuts::long_lines),
+    part("encode, cuts value by value", cuts::by_single_values),
     part("lines, 4,096 points", shapes::long_lines),
     part("lines, lengths around 4,096", lengths::long_lines),
     part("lines, every layout", shapes::every_layout),
@@ -68,14 +73,16 @@ pub fn expected_decode_point(layout: Layout, bytes: &[u8], point: &mut Guarded<u
     }
 }
 
-pub fn expected_encode_line(layout: Layout, values: &[f32], packed: &mut Guarded<u8>) -> i64 {
+pub fn expected_encode_line(layout: Layout, values: &[f32], packed: &mut Clamped<u8>) -> i64 {
     let bits: Vec<u32> = values.iter().map(|value| value.to_bits()).collect();
-    answer(lines::encode_line(layout, &bits, packed.output()))
+    let counts = lines::encode_line(layout, &bits, packed.output());
+    counted(counts, &mut packed.cuts)
 }
 
-pub fn expected_encode_point(layout: Layout, values: [f32; 3], packed: &mut Guarded<u8>) -> i64 {
+pub fn expected_encode_point(layout: Layout, values: [f32; 3], packed: &mut Clamped<u8>) -> i64 {
     let bits = values.map(f32::to_bits);
-    answer(lines::encode_point(layout, bits, packed.output()))
+    let counts = lines::encode_point(layout, bits, packed.output());
+    counted(counts, &mut packed.cuts)
 }
 
 /// A count or refusal as the C interface answers it.
@@ -168,8 +175,8 @@ fn compare_encode_line(
     values: &[f32],
     length: usize,
 ) -> Flow {
-    let outcome = Outcome::of(length, |out| (library.encode_line)(layout, values, out));
-    let expected = Outcome::of(length, |out| expected_encode_line(layout, values, out));
+    let outcome = Outcome::with_cuts(length, |out| (library.encode_line)(layout, values, out));
+    let expected = Outcome::with_cuts(length, |out| expected_encode_line(layout, values, out));
     tally.compare(outcome == expected, || {
         format!(
             "encode {layout:?}, {} floats to {length} bytes, {:?}: {}",
@@ -187,8 +194,8 @@ fn compare_encode_point(
     values: [f32; 3],
     length: usize,
 ) -> Flow {
-    let outcome = Outcome::of(length, |out| (library.encode_point)(layout, values, out));
-    let expected = Outcome::of(length, |out| expected_encode_point(layout, values, out));
+    let outcome = Outcome::with_cuts(length, |out| (library.encode_point)(layout, values, out));
+    let expected = Outcome::with_cuts(length, |out| expected_encode_point(layout, values, out));
     tally.compare(outcome == expected, || {
         format!(
             "encode a point {layout:?}, {values:?} to {length} bytes: {}",

@@ -10,6 +10,7 @@ use crate::part::Part;
 use crate::tally::Tally;
 
 mod card;
+mod clamped;
 mod color;
 mod descriptor;
 mod exhaustive;
@@ -67,7 +68,10 @@ fn usage() -> ExitCode {
 fn ordinary() -> bool {
     let start = Instant::now();
     let mut total = Tally::default();
-    for part in part::library_parts().chain(part::reference_parts()) {
+    let parts = part::library_parts()
+        .chain(part::whole_parts())
+        .chain(part::reference_parts());
+    for part in parts {
         total.add(run(part));
     }
     total.add(through_the_binding());

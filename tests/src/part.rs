@@ -42,6 +42,11 @@ pub fn entry_parts() -> impl Iterator<Item = &'static Part> {
     .flatten()
 }
 
+/// Every part that goes through a whole domain: once, of the library that is linked.
+pub fn whole_parts() -> impl Iterator<Item = &'static Part> {
+    color::WHOLE_PARTS.iter()
+}
+
 /// Every part that needs no library.
 pub fn reference_parts() -> impl Iterator<Item = &'static Part> {
     [quantization::REFERENCE_PARTS, color::REFERENCE_PARTS]

@@ -3,7 +3,7 @@
 //! byte by byte, colors over one denominator, cards row by row, stacks from their
 //! end. Its pieces can be exchanged for wrong ones.
 
-use crate::library::{Convert, Library};
+use crate::library::{Convert, Library, Quantize};
 
 pub mod card;
 pub mod color;
@@ -19,23 +19,15 @@ use self::quantization::{divided, half_up, line, rounded};
 
 pub const PLAIN: Library = Library {
     dequantize: |setting, code, slot| divided(setting, code, slot, line, |p, q| p / q),
-    quantize: |setting, value| rounded(setting, value, line, half_up),
+    quantize: QUANTIZE,
     field_bytes: |layout, channel, first| field::told(layout, channel, first, field::held),
     field_code: |layout, channel, bytes| field::taken(layout, channel, bytes, field::held),
     unpack_line: |layout, packed, out| lines::unpacked(layout, packed, out, lines::place),
     pack_line: |layout, codes, out| lines::packed(layout, codes, out, lines::place),
     decode_line: |layout, packed, out| lines::decoded(layout, packed, out, line, |p, q| p / q),
     decode_point: |layout, bytes, out| lines::decoded(layout, bytes, out, line, |p, q| p / q),
-    encode_line: |layout, values, out| {
-        lines::encoded(layout, values, out, |setting, value| {
-            rounded(setting, value, line, half_up)
-        })
-    },
-    encode_point: |layout, values, out| {
-        lines::encoded(layout, &values, out, |setting, value| {
-            rounded(setting, value, line, half_up)
-        })
-    },
+    encode_line: |layout, values, out| lines::encoded(layout, values, out, QUANTIZE),
+    encode_point: |layout, values, out| lines::encoded(layout, &values, out, QUANTIZE),
     descriptor_read: |bytes, out| {
         descriptor::read(bytes, out, descriptor::rising, descriptor::limits)
     },
@@ -62,6 +54,8 @@ pub const PLAIN: Library = Library {
         )
     },
 };
+
+const QUANTIZE: Quantize = |setting, value, cuts| rounded(setting, value, cuts, line, half_up);
 
 const CONVERT: Convert = |direction, conversion, codes, out| {
     color::converted(direction, conversion, codes, out, color::PIECES)

@@ -1,15 +1,16 @@
 //! Codes to floats and back: one comparison of each function with the
 //! reference, and the parts that choose what to compare.
 
-use reference::quantization::{self, Kind, Scale};
+use reference::quantization::{self, Kind, Quantized, Scale};
 use reference::refusal::Refusal;
 
 use crate::layouts::RANGES;
-use crate::library::{Library, Setting, Slot, FLOAT};
+use crate::library::{Library, Setting, Slot, CUTS, EMPTY_SLOT, FLOAT};
 use crate::part::{part, Part};
 use crate::tally::{Flow, Tally};
 
 mod codes;
+mod cuts;
 mod examples;
 pub mod exhaustive;
 pub mod floats;
@@ -22,6 +23,7 @@ pub const PARTS: &[Part] = &[
     part("marked examples and traps", examples::marked),
     part("published figures", examples::published),
     part("quantize, the ends of narrow range", examples::narrow_ends),
+    part("quantize, the borders of every scale", cuts::borders),
     part("quantize, not-a-numbers", floats::not_a_numbers),
     part("dequantize, then quantize back", codes::there_and_back),
     part("refusals, one input at a time", refusals::single),
@@ -37,16 +39,6 @@ pub const PARTS: &[Part] = &[
 pub const REFERENCE_PARTS: &[Part] = &[
     part("reference, nearest floats", reference_itself::nearest),
     part("reference, 64 against 128 bits", reference_itself::paths),
-];
-
-/// What the float holds before a call. It is a not-a-number, so no code's float.
-const UNTOUCHED: u32 = 0x7fa5_a5a5;
-const EMPTY_SLOT: Slot = [
-    0x5a5a_5a5a,
-    0xc3c3_c3c3,
-    UNTOUCHED,
-    0x3c3c_3c3c,
-    0xa5a5_a5a5,
 ];
 
 /// The 54 settings that are not refused.
@@ -91,10 +83,22 @@ pub fn expected_dequantize(setting: Setting, code: u16, slot: &mut Slot) -> i64 
     }
 }
 
-pub fn expected_quantize(setting: Setting, bits: u32) -> i64 {
+/// The same with the slot of the number of cuts.
+pub fn expected_quantize(setting: Setting, bits: u32, slot: &mut Slot) -> i64 {
     let [model, range, depth, channel] = setting;
-    match quantization::quantize(model, range, depth, channel, bits) {
-        Ok(code) => i64::from(code),
+    answer(
+        quantization::quantize(model, range, depth, channel, bits),
+        slot,
+    )
+}
+
+/// A code with its cut, or a refusal, as the C interface answers it.
+fn answer(result: Result<Quantized, Refusal>, slot: &mut Slot) -> i64 {
+    match result {
+        Ok(Quantized { code, cut }) => {
+            slot[CUTS] = cut.into();
+            code.into()
+        }
         Err(refusal) => refused(refusal),
     }
 }
@@ -114,11 +118,14 @@ fn compare_dequantize(library: &Library, tally: &mut Tally, setting: Setting, co
 }
 
 fn compare_quantize(library: &Library, tally: &mut Tally, setting: Setting, bits: u32) -> Flow {
-    let answer = (library.quantize)(setting, f32::from_bits(bits));
-    let expected = expected_quantize(setting, bits);
-    tally.compare(answer == expected, || {
+    let mut slot = EMPTY_SLOT;
+    let answer = (library.quantize)(setting, f32::from_bits(bits), &mut slot);
+    let mut expected_slot = EMPTY_SLOT;
+    let expected = expected_quantize(setting, bits, &mut expected_slot);
+    tally.compare(answer == expected && slot == expected_slot, || {
         format!(
-            "quantize {}, value 0x{bits:08x}: answer {answer}, must be {expected}",
+            "quantize {}, value 0x{bits:08x}: answer {answer} and cuts {slot:x?}, \
+             must be {expected} and {expected_slot:x?}",
             words(setting)
         )
     })

@@ -32,6 +32,10 @@ mod color_lines;
 mod color_reckoning;
 mod color_refusals;
 mod converts;
+mod cut_counts;
+mod cut_stores;
+mod cut_values;
+mod cuts;
 mod decode;
 mod descriptor;
 mod encode;
@@ -53,7 +57,7 @@ pub type Wrong = (&'static str, Library);
 
 pub const REFERENCE: Library = Library {
     dequantize: expected_dequantize,
-    quantize: |setting, value| expected_quantize(setting, value.to_bits()),
+    quantize: |setting, value, cuts| expected_quantize(setting, value.to_bits(), cuts),
     field_bytes: expected_field_bytes,
     field_code: expected_field_code,
     unpack_line: expected_unpack_line,
@@ -80,6 +84,9 @@ pub const RIGHT: &[Library] = &[REFERENCE, PLAIN];
 pub const WRONG: &[(&[Part], &[Wrong])] = &[
     (values::PARTS, quantization::WRONG),
     (values::PARTS, ends::QUANTIZING),
+    (values::PARTS, cuts::QUANTIZING),
+    (values::PARTS, cut_values::QUANTIZING),
+    (values::PARTS, cut_stores::QUANTIZING),
     (fields::PARTS, field::WRONG),
     (fields::PARTS, field_bytes::WRONG),
     (fields::PARTS, field_code::WRONG),
@@ -88,9 +95,21 @@ pub const WRONG: &[(&[Part], &[Wrong])] = &[
     (lines::PARTS, decode::WRONG),
     (lines::PARTS, encode::WRONG),
     (lines::PARTS, ends::ENCODING),
+    (lines::PARTS, cuts::ENCODING),
+    (lines::PARTS, cut_values::ENCODING),
+    (lines::PARTS, cut_counts::ENCODING),
+    (lines::PARTS, cut_counts::ENCODING_A_POINT),
+    (lines::PARTS, cut_stores::ENCODING),
+    (lines::PARTS, cut_stores::ENCODING_A_LINE),
     (descriptors::PARTS, descriptor::WRONG),
     (colors::PARTS, color::WRONG),
     (colors::PARTS, ends::CONVERTING),
+    (colors::PARTS, cuts::CONVERTING),
+    (colors::PARTS, cut_values::CONVERTING),
+    (colors::PARTS, cut_values::CONVERTING_TO_RGB),
+    (colors::PARTS, cut_counts::CONVERTING),
+    (colors::PARTS, cut_stores::CONVERTING),
+    (colors::PARTS, cut_stores::CONVERTING_A_LINE),
     (colors::PARTS, color_formulas::WRONG),
     (colors::PARTS, color_reckoning::WRONG),
     (colors::PARTS, color_lines::WRONG),

@@ -1,11 +1,9 @@
 //! Lines in four layouts, smooth and random, decoding and unpacking in two more, and
 //! decoding and encoding in the other ranges.
 
-use std::rc::Rc;
-
 use super::label;
 use crate::before::{Before, LineBefore};
-use crate::case::{line_side, Case, Label, Line, LineJob, LENGTHS};
+use crate::case::{Case, Label, Line, LineJob};
 use crate::inputs::{self, packed_length, Forms, POINTS};
 use crate::library::lines as library;
 use crate::plain::layout::Numbers;
@@ -86,7 +84,10 @@ impl Given<'_> {
             self.named("decode_line"),
             (self.layout, &self.forms.packed, ELEMENTS),
             None,
-            [library::decode_line, plain::decode_line],
+            [
+                |layout, packed, out, _| library::decode_line(layout, packed, out),
+                |layout, packed, out, _| plain::decode_line(layout, packed, out),
+            ],
             self.before.and_then(Before::decode_line),
         )
     }
@@ -97,7 +98,7 @@ impl Given<'_> {
             (self.layout, &self.forms.values, packed_length(self.layout)),
             Some(f32::NAN),
             [library::encode_line, plain::encode_line],
-            None,
+            self.before.and_then(Before::encode_line),
         )
     }
 
@@ -106,7 +107,10 @@ impl Given<'_> {
             self.named("unpack_line"),
             (self.layout, &self.forms.packed, ELEMENTS),
             None,
-            [library::unpack_line, plain::unpack_line],
+            [
+                |layout, packed, out, _| library::unpack_line(layout, packed, out),
+                |layout, packed, out, _| plain::unpack_line(layout, packed, out),
+            ],
             self.before.and_then(Before::unpack_line),
         )
     }
@@ -116,7 +120,10 @@ impl Given<'_> {
             self.named("pack_line"),
             (self.layout, &self.forms.codes, packed_length(self.layout)),
             Some(u16::MAX),
-            [library::pack_line, plain::pack_line],
+            [
+                |layout, codes, out, _| library::pack_line(layout, codes, out),
+                |layout, codes, out, _| plain::pack_line(layout, codes, out),
+            ],
             self.before.and_then(Before::pack_line),
         )
     }
@@ -146,7 +153,7 @@ fn case<I, O>(
     (numbers, elements, output): (Numbers, &[I], usize),
     wrong: Option<I>,
     jobs: [LineJob<Numbers, I, O>; 2],
-    before: Option<LineBefore<I, O>>,
+    before: Option<LineBefore<Numbers, I, O>>,
 ) -> Result<Case, String>
 where
     I: Copy + 'static,
@@ -165,13 +172,5 @@ where
         line.elements[elements.len() - 1] = element;
         refused.push(line);
     }
-    let before = before.map(Rc::new);
-    let side = |length| {
-        let job = before.clone()?;
-        let job = move |numbers, given: &[I], made: &mut [O]| job(numbers, given, made);
-        Some(line_side(job, line.clone(), length))
-    };
-    let (whole, short) = (side(POINTS), side(LENGTHS[0]));
-    let case = Case::line(label, line, &refused, jobs)?.beside(whole)?;
-    Ok(case.beside_short(short))
+    Case::line(label, line.clone(), &refused, jobs)?.beside_line(line, before)
 }

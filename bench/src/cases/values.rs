@@ -2,7 +2,7 @@
 
 use super::{label, MANY};
 use crate::before::Before;
-use crate::case::{call_side, Case};
+use crate::case::{call_side, Case, NO_CUTS};
 use crate::library;
 use crate::plain;
 use crate::plain::layout::Numbers;
@@ -15,9 +15,9 @@ const LONGEST: usize = 8;
 pub fn cases(before: Option<&Before>) -> Result<Vec<Case>, String> {
     Ok(vec![
         dequantize()?,
-        quantize()?,
+        quantize(before)?,
         decode_point(before)?,
-        encode_point()?,
+        encode_point(before)?,
     ])
 }
 
@@ -39,19 +39,28 @@ fn dequantize() -> Result<Case, String> {
     )
 }
 
-fn quantize() -> Result<Case, String> {
+fn quantize(before: Option<&Before>) -> Result<Case, String> {
     let mut random = Random::new();
     let valued = |_| (setting(&mut random), random.value());
+    let floats: Vec<(Setting, f32)> = (0..MANY).map(valued).collect();
+    let before = before.and_then(Before::quantize).map(|job| {
+        call_side(
+            move |(setting, value), cuts| job(*setting, *value, cuts),
+            floats.clone(),
+            NO_CUTS,
+        )
+    });
     Case::calls(
         label("quantize", "one value", "any floats"),
-        (0..MANY).map(valued).collect(),
+        floats,
         &[([2, 1, 9, 0], 0.0), ([2, 1, 8, 0], f32::NAN)],
-        (),
+        NO_CUTS,
         [
-            |(setting, value), ()| library::values::quantize(*setting, *value),
-            |(setting, value), ()| plain::values::quantize(*setting, *value),
+            |(setting, value), cuts| library::values::quantize(*setting, *value, cuts),
+            |(setting, value), cuts| plain::values::quantize(*setting, *value, cuts),
         ],
-    )
+    )?
+    .beside(before)
 }
 
 fn decode_point(before: Option<&Before>) -> Result<Case, String> {
@@ -88,7 +97,7 @@ fn decode_point(before: Option<&Before>) -> Result<Case, String> {
     .beside(before)
 }
 
-fn encode_point() -> Result<Case, String> {
+fn encode_point(before: Option<&Before>) -> Result<Case, String> {
     let mut random = Random::new();
     let point = |_| {
         let layout = random.layout();
@@ -102,20 +111,30 @@ fn encode_point() -> Result<Case, String> {
         (layout, values, length - 1),
         (layout, [0.0, 0.0, f32::NAN], length),
     ];
+    let before = before.and_then(Before::encode_point).map(|job| {
+        call_side(
+            move |(layout, values, length), (out, cuts): &mut ([u8; LONGEST], u32)| {
+                job(*layout, *values, &mut out[..*length], cuts)
+            },
+            points.clone(),
+            ([0; LONGEST], NO_CUTS),
+        )
+    });
     Case::calls(
         label("encode_point", "one point", "any layouts"),
         points,
         &refused,
-        [0; LONGEST],
+        ([0; LONGEST], NO_CUTS),
         [
-            |(layout, values, length), out| {
-                library::lines::encode_point(*layout, *values, &mut out[..*length])
+            |(layout, values, length), (out, cuts)| {
+                library::lines::encode_point(*layout, *values, &mut out[..*length], cuts)
             },
-            |(layout, values, length), out| {
-                plain::lines::encode_point(*layout, *values, &mut out[..*length])
+            |(layout, values, length), (out, cuts)| {
+                plain::lines::encode_point(*layout, *values, &mut out[..*length], cuts)
             },
         ],
-    )
+    )?
+    .beside(before)
 }
 
 fn setting(random: &mut Random) -> Setting {

@@ -1,7 +1,7 @@
 //! Lines, colors and points. Lines go through the binding's safe functions, which
 //! cost nothing beside a line. Beside a single call they would be seen.
 
-use imurraqi::{ffi, Layout, Refusal};
+use imurraqi::{ffi, Clamped, Layout, Refusal};
 
 use crate::plain::colors::Conversion;
 use crate::plain::layout::Numbers;
@@ -21,9 +21,9 @@ pub fn decode_line(layout: Numbers, packed: &[u8], values: &mut [f32]) -> i64 {
     answer(imurraqi::decode_line(layout, packed, values))
 }
 
-pub fn encode_line(layout: Numbers, values: &[f32], packed: &mut [u8]) -> i64 {
+pub fn encode_line(layout: Numbers, values: &[f32], packed: &mut [u8], cuts: &mut u32) -> i64 {
     let layout = Layout::from_bytes(layout);
-    answer(imurraqi::encode_line(layout, values, packed))
+    clamped(imurraqi::encode_line(layout, values, packed), cuts)
 }
 
 pub fn decode_point(layout: Numbers, packed: &[u8], point: &mut [f32; 3]) -> i64 {
@@ -32,17 +32,23 @@ pub fn decode_point(layout: Numbers, packed: &[u8], point: &mut [f32; 3]) -> i64
     unsafe { ffi::imurraqi_decode_point(&layout, packed.as_ptr(), packed.len(), point) }
 }
 
-pub fn encode_point(layout: Numbers, [x, y, z]: [f32; 3], packed: &mut [u8]) -> i64 {
-    // SAFETY: as for `decode_point`.
-    unsafe { ffi::imurraqi_encode_point(&layout, x, y, z, packed.as_mut_ptr(), packed.len()) }
+pub fn encode_point(
+    layout: Numbers,
+    [x, y, z]: [f32; 3],
+    packed: &mut [u8],
+    cuts: &mut u32,
+) -> i64 {
+    let (out, len) = (packed.as_mut_ptr(), packed.len());
+    // SAFETY: as for `decode_point`, and nothing else uses the number of cuts.
+    unsafe { ffi::imurraqi_encode_point(&layout, x, y, z, out, len, cuts) }
 }
 
-pub fn rgb_to_ycbcr(conversion: Conversion, rgb: &[u16], ycbcr: &mut [u16]) -> i64 {
-    answer(imurraqi::rgb_to_ycbcr(named(conversion), rgb, ycbcr))
+pub fn rgb_to_ycbcr(conversion: Conversion, rgb: &[u16], ycbcr: &mut [u16], cuts: &mut u32) -> i64 {
+    clamped(imurraqi::rgb_to_ycbcr(named(conversion), rgb, ycbcr), cuts)
 }
 
-pub fn ycbcr_to_rgb(conversion: Conversion, ycbcr: &[u16], rgb: &mut [u16]) -> i64 {
-    answer(imurraqi::ycbcr_to_rgb(named(conversion), ycbcr, rgb))
+pub fn ycbcr_to_rgb(conversion: Conversion, ycbcr: &[u16], rgb: &mut [u16], cuts: &mut u32) -> i64 {
+    clamped(imurraqi::ycbcr_to_rgb(named(conversion), ycbcr, rgb), cuts)
 }
 
 fn named([primaries, depth, range_in, range_out]: Conversion) -> imurraqi::Conversion {
@@ -60,4 +66,12 @@ fn answer(answered: Result<usize, Refusal>) -> i64 {
         Ok(count) => count as i64,
         Err(refusal) => -i64::from(refusal.number()),
     }
+}
+
+/// With the number of cuts where the C interface writes it.
+fn clamped(answered: Result<Clamped, Refusal>, cuts: &mut u32) -> i64 {
+    answer(answered.map(|made| {
+        *cuts = made.cuts as u32;
+        made.points
+    }))
 }

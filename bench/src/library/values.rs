@@ -9,7 +9,7 @@ pub fn dequantize([model, range, depth, channel]: Setting, code: u16, value: &mu
     unsafe { ffi::imurraqi_dequantize(model, range, depth, channel, code, value) }
 }
 
-pub fn quantize([model, range, depth, channel]: Setting, value: f32) -> i64 {
-    // SAFETY: no pointers are given.
-    unsafe { ffi::imurraqi_quantize(model, range, depth, channel, value) }
+pub fn quantize([model, range, depth, channel]: Setting, value: f32, cuts: &mut u32) -> i64 {
+    // SAFETY: the pointer is to one number that nothing else uses.
+    unsafe { ffi::imurraqi_quantize(model, range, depth, channel, value, cuts) }
 }

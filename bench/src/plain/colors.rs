@@ -23,12 +23,12 @@ struct Row {
     divisor: u64,
 }
 
-pub fn rgb_to_ycbcr(conversion: Conversion, rgb: &[u16], ycbcr: &mut [u16]) -> i64 {
-    convert(conversion, ycbcr_rows, rgb, ycbcr)
+pub fn rgb_to_ycbcr(conversion: Conversion, rgb: &[u16], ycbcr: &mut [u16], cuts: &mut u32) -> i64 {
+    convert(conversion, ycbcr_rows, rgb, ycbcr, cuts)
 }
 
-pub fn ycbcr_to_rgb(conversion: Conversion, ycbcr: &[u16], rgb: &mut [u16]) -> i64 {
-    convert(conversion, rgb_rows, ycbcr, rgb)
+pub fn ycbcr_to_rgb(conversion: Conversion, ycbcr: &[u16], rgb: &mut [u16], cuts: &mut u32) -> i64 {
+    convert(conversion, rgb_rows, ycbcr, rgb, cuts)
 }
 
 fn convert(
@@ -36,6 +36,7 @@ fn convert(
     rows: fn(Conversion, [u64; 2]) -> [Row; 3],
     codes: &[u16],
     out: &mut [u16],
+    cuts: &mut u32,
 ) -> i64 {
     let [primaries, depth, range_in, range_out] = conversion;
     let weights = match primaries {
@@ -60,22 +61,31 @@ fn convert(
     let [first, second, third] = rows(conversion, weights);
     // Both kinds have the same ends.
     let made = Scale::new(range_out, depth, false);
-    let (bottom, top) = (made.bottom as u64, made.top as u64);
+    let ends = [made.bottom as u64, made.top as u64];
+    // Full range rounds -1/2 down: there what is no more than 0 is below it already.
+    let least = u64::from(range_out == 2);
+    *cuts = 0;
     for (codes, out) in codes.chunks_exact(3).zip(out.chunks_exact_mut(3)) {
         let point = [codes[0], codes[1], codes[2]].map(u64::from);
-        out[0] = first.number(point).clamp(bottom, top) as u16;
-        out[1] = second.number(point).clamp(bottom, top) as u16;
-        out[2] = third.number(point).clamp(bottom, top) as u16;
+        let (x, x_cut) = first.code(point, ends, least);
+        let (y, y_cut) = second.code(point, ends, least);
+        let (z, z_cut) = third.code(point, ends, least);
+        out.copy_from_slice(&[x, y, z]);
+        *cuts += u32::from(x_cut) + u32::from(y_cut) + u32::from(z_cut);
     }
     count as i64
 }
 
 impl Row {
+    /// The code, and whether it was cut: it is another than its number, or that is below
+    /// zero, as it is where plus less minus is under the least.
     #[inline(always)]
-    fn number(self, [x, y, z]: [u64; 3]) -> u64 {
+    fn code(self, [x, y, z]: [u64; 3], [bottom, top]: [u64; 2], least: u64) -> (u16, bool) {
         let plus = self.plus[0] * x + self.plus[1] * y + self.plus[2] * z + self.plus_number;
         let minus = self.minus[0] * x + self.minus[1] * y + self.minus[2] * z + self.minus_number;
-        plus.saturating_sub(minus) / self.divisor
+        let number = plus.saturating_sub(minus) / self.divisor;
+        let code = number.clamp(bottom, top);
+        (code as u16, code != number || plus < minus + least)
     }
 }
 

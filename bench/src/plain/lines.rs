@@ -53,7 +53,7 @@ pub fn decode_line(layout: Numbers, packed: &[u8], values: &mut [f32]) -> i64 {
     count as i64
 }
 
-pub fn encode_line(layout: Numbers, values: &[f32], packed: &mut [u8]) -> i64 {
+pub fn encode_line(layout: Numbers, values: &[f32], packed: &mut [u8], cuts: &mut u32) -> i64 {
     let Some(layout) = Layout::new(layout) else {
         return OUTSIDE;
     };
@@ -66,7 +66,7 @@ pub fn encode_line(layout: Numbers, values: &[f32], packed: &mut [u8]) -> i64 {
     if not_a_number {
         return NOT_A_NUMBER;
     }
-    encode_all(layout, values, packed);
+    *cuts = encode_all(layout, values, packed);
     count as i64
 }
 
@@ -83,7 +83,7 @@ pub fn decode_point(layout: Numbers, packed: &[u8], point: &mut [f32; 3]) -> i64
 }
 
 /// As a line of one point is.
-pub fn encode_point(layout: Numbers, point: [f32; 3], packed: &mut [u8]) -> i64 {
+pub fn encode_point(layout: Numbers, point: [f32; 3], packed: &mut [u8], cuts: &mut u32) -> i64 {
     let Some(layout) = Layout::new(layout) else {
         return OUTSIDE;
     };
@@ -93,7 +93,7 @@ pub fn encode_point(layout: Numbers, point: [f32; 3], packed: &mut [u8]) -> i64 
     if point.iter().any(|value| value.is_nan()) {
         return NOT_A_NUMBER;
     }
-    encode_all(layout, &point, packed);
+    *cuts = encode_all(layout, &point, packed);
     1
 }
 
@@ -104,7 +104,8 @@ fn decode_all(layout: Layout, packed: &[u8], values: &mut [f32]) {
     });
 }
 
-fn encode_all(layout: Layout, values: &[f32], packed: &mut [u8]) {
+/// The number of cuts.
+fn encode_all(layout: Layout, values: &[f32], packed: &mut [u8]) -> u32 {
     match layout.bytes {
         3 => encode::<3>(layout, values, packed),
         4 => encode::<4>(layout, values, packed),
@@ -182,21 +183,28 @@ pub fn value(scale: Scale, code: u32) -> f32 {
     (code as i32 - scale.base as i32) as f32 / scale.span as f32
 }
 
-fn encode<const BYTES: usize>(layout: Layout, values: &[f32], packed: &mut [u8]) {
+fn encode<const BYTES: usize>(layout: Layout, values: &[f32], packed: &mut [u8]) -> u32 {
     let [first, second, third] = layout.offsets;
+    let mut cuts = 0;
     for (bytes, values) in packed.chunks_exact_mut(BYTES).zip(values.chunks_exact(3)) {
-        let point = code(layout.scales[0], values[0]) << first
-            | code(layout.scales[1], values[1]) << second
-            | code(layout.scales[2], values[2]) << third;
-        store::<BYTES>(bytes, point);
+        let (x, x_cut) = code(layout.scales[0], values[0]);
+        let (y, y_cut) = code(layout.scales[1], values[1]);
+        let (z, z_cut) = code(layout.scales[2], values[2]);
+        store::<BYTES>(bytes, x << first | y << second | z << third);
+        cuts += u32::from(x_cut) + u32::from(y_cut) + u32::from(z_cut);
     }
+    cuts
 }
 
-/// The code of a float that is a number: floor(span * v + base + 1/2), clamped. An
-/// f64 holds the product.
-pub fn code(scale: Scale, value: f32) -> u64 {
+/// The code of a float that is a number: floor(span * v + base + 1/2), clamped, and
+/// whether it was cut: whether that floor is under the bottom or above the top. An f64
+/// holds the product. In full range a half under zero is rounded down; but of those only
+/// -1/2 would not be cut here, and no float is that.
+pub fn code(scale: Scale, value: f32) -> (u64, bool) {
     let number = f64::from(value) * scale.span as f64 + (scale.base as f64 + 0.5);
-    number.clamp(scale.bottom as f64, scale.top as f64) as i32 as u64
+    let (bottom, top) = (scale.bottom as f64, scale.top as f64);
+    let code = number.clamp(bottom, top) as i32 as u64;
+    (code, !(bottom..top + 1.0).contains(&number))
 }
 
 /// The bits of a float without its sign.

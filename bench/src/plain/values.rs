@@ -19,14 +19,16 @@ pub fn dequantize(setting: Setting, code: u16, value: &mut f32) -> i64 {
     difference(setting).into()
 }
 
-pub fn quantize(setting: Setting, value: f32) -> i64 {
+pub fn quantize(setting: Setting, value: f32, cuts: &mut u32) -> i64 {
     let Some(scale) = scale(setting) else {
         return OUTSIDE;
     };
     if value.is_nan() {
         return NOT_A_NUMBER;
     }
-    lines::code(scale, value) as i64
+    let (code, cut) = lines::code(scale, value);
+    *cuts = cut.into();
+    code as i64
 }
 
 fn scale(setting: Setting) -> Option<Scale> {

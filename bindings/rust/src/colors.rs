@@ -1,8 +1,8 @@
 //! Lines of codes between R'G'B' and Y'CbCr.
 
+use crate::clamped::clamped;
 use crate::ffi;
-use crate::refusal::answer;
-use crate::Refusal;
+use crate::{Clamped, Refusal};
 
 /// By which weights codes are converted, and between which ranges.
 #[derive(Clone, Copy, Debug, PartialEq, Eq, Hash)]
@@ -17,7 +17,8 @@ pub struct Conversion {
     pub range_out: u8,
 }
 
-type Entry = unsafe extern "C" fn(u8, u8, u8, u8, *const u16, usize, *mut u16, usize) -> i64;
+type Entry =
+    unsafe extern "C" fn(u8, u8, u8, u8, *const u16, usize, *mut u16, usize, *mut u32) -> i64;
 
 #[inline]
 fn convert(
@@ -25,7 +26,7 @@ fn convert(
     conversion: Conversion,
     codes: &[u16],
     out: &mut [u16],
-) -> Result<usize, Refusal> {
+) -> Result<Clamped, Refusal> {
     let Conversion {
         primaries,
         depth,
@@ -33,8 +34,8 @@ fn convert(
         range_out,
     } = conversion;
     // SAFETY: the pointers are to as many codes as the lengths say, and nothing else
-    // uses the output.
-    answer(unsafe {
+    // uses the output, nor the number of cuts.
+    clamped(|cuts| unsafe {
         entry(
             primaries,
             depth,
@@ -44,17 +45,18 @@ fn convert(
             codes.len(),
             out.as_mut_ptr(),
             out.len(),
+            cuts,
         )
     })
 }
 
 /// Converts a line of codes of R', G' and B', three a point, to Y', Cb and Cr, into
 /// a slice of the same length. Any code of the depth may be given; those made are
-/// clamped as [`quantize`](crate::quantize) clamps them. Answers the count of points.
-/// Refused: 9, then 13, then 14.
+/// clamped as [`quantize`](crate::quantize) clamps them. Answers the count of points and
+/// how many of the codes made were cut. Refused: 9, then 13, then 14.
 ///
 /// ```
-/// use imurraqi::{primaries, range, rgb_to_ycbcr, Conversion};
+/// use imurraqi::{primaries, range, rgb_to_ycbcr, Clamped, Conversion};
 ///
 /// let conversion = Conversion {
 ///     primaries: primaries::BT601_EBU,
@@ -63,7 +65,8 @@ fn convert(
 ///     range_out: range::NARROW,
 /// };
 /// let mut red = [0; 3];
-/// assert_eq!(rgb_to_ycbcr(conversion, &[1023, 0, 0], &mut red), Ok(1));
+/// let made = rgb_to_ycbcr(conversion, &[1023, 0, 0], &mut red);
+/// assert_eq!(made, Ok(Clamped { points: 1, cuts: 0 }));
 /// assert_eq!(red, [326, 361, 960]);
 /// ```
 #[inline]
@@ -71,25 +74,39 @@ pub fn rgb_to_ycbcr(
     conversion: Conversion,
     codes: &[u16],
     out: &mut [u16],
-) -> Result<usize, Refusal> {
+) -> Result<Clamped, Refusal> {
     convert(ffi::imurraqi_rgb_to_ycbcr, conversion, codes, out)
 }
 
-/// Converts a line of codes of Y', Cb and Cr to R', G' and B' likewise.
+/// Converts a line of codes of Y', Cb and Cr to R', G' and B' likewise. Many a triple of
+/// Y'CbCr codes is no color, and is cut. In full range a half is rounded away from 0, so
+/// that -1/2 is cut; in legacy full range it is rounded up, to 0.
 ///
 /// ```
-/// use imurraqi::{range, ycbcr_to_rgb, Layout};
+/// use imurraqi::{range, ycbcr_to_rgb, Clamped, Conversion, Layout};
 ///
 /// let layout = Layout::from_bytes([2, 2, 1, 10, 4, 0, 10, 20]);
-/// let mut red = [0; 3];
-/// assert_eq!(ycbcr_to_rgb(layout.conversion(range::FULL), &[326, 361, 960], &mut red), Ok(1));
-/// assert_eq!(red, [1023, 0, 0]);
+/// let to_full = layout.conversion(range::FULL);
+/// let mut made = [0; 6];
+/// let answer = ycbcr_to_rgb(to_full, &[326, 361, 960, 1019, 512, 512], &mut made);
+/// assert_eq!(answer, Ok(Clamped { points: 2, cuts: 3 }));
+/// assert_eq!(made, [1023, 0, 0, 1023, 1023, 1023]);
+///
+/// // R' = 350 + 1.402 (262 - 512) = -1/2.
+/// let full = Conversion { range_in: range::FULL, ..to_full };
+/// let older = range::LEGACY_FULL;
+/// let early = Conversion { range_in: older, range_out: older, ..full };
+/// for (conversion, cuts) in [(full, 1), (early, 0)] {
+///     let answer = ycbcr_to_rgb(conversion, &[350, 512, 262], &mut made[..3]);
+///     assert_eq!(answer, Ok(Clamped { points: 1, cuts }));
+///     assert_eq!(made[..3], [0, 529, 350]);
+/// }
 /// ```
 #[inline]
 pub fn ycbcr_to_rgb(
     conversion: Conversion,
     codes: &[u16],
     out: &mut [u16],
-) -> Result<usize, Refusal> {
+) -> Result<Clamped, Refusal> {
     convert(ffi::imurraqi_ycbcr_to_rgb, conversion, codes, out)
 }

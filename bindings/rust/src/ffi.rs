@@ -21,7 +21,14 @@ extern "C" {
         value: *mut f32,
     ) -> i64;
 
-    pub fn imurraqi_quantize(model: u8, range: u8, depth: u8, channel: u8, value: f32) -> i64;
+    pub fn imurraqi_quantize(
+        model: u8,
+        range: u8,
+        depth: u8,
+        channel: u8,
+        value: f32,
+        cuts: *mut u32,
+    ) -> i64;
 
     pub fn imurraqi_decode_point(
         layout: *const [u8; 8],
@@ -45,6 +52,7 @@ extern "C" {
         channel2: f32,
         out: *mut u8,
         out_len: usize,
+        cuts: *mut u32,
     ) -> i64;
 
     pub fn imurraqi_encode_line(
@@ -53,6 +61,7 @@ extern "C" {
         len: usize,
         out: *mut u8,
         out_len: usize,
+        cuts: *mut u32,
     ) -> i64;
 
     pub fn imurraqi_field_bytes(layout: *const [u8; 8], channel: u8, first: *mut u8) -> i64;
@@ -89,6 +98,7 @@ extern "C" {
         len: usize,
         out: *mut u16,
         out_len: usize,
+        cuts: *mut u32,
     ) -> i64;
 
     pub fn imurraqi_ycbcr_to_rgb(
@@ -100,6 +110,7 @@ extern "C" {
         len: usize,
         out: *mut u16,
         out_len: usize,
+        cuts: *mut u32,
     ) -> i64;
 
     pub fn imurraqi_card_read(

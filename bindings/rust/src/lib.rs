@@ -34,6 +34,7 @@
 #![warn(missing_docs)]
 
 mod cards;
+mod clamped;
 mod colors;
 mod descriptors;
 // The header says what each function does.
@@ -50,6 +51,7 @@ pub use cards::{
     access, card_read, card_rewrite, card_write, find, stack_find, Facts, CARD_SIZE, MOST_CARDS,
     NEWEST_EDITION,
 };
+pub use clamped::Clamped;
 pub use colors::{rgb_to_ycbcr, ycbcr_to_rgb, Conversion};
 pub use descriptors::{descriptor_read, descriptor_write, DESCRIPTOR_SIZE};
 pub use fields::{field_bytes, field_code};
@@ -59,4 +61,4 @@ pub use lines::{
     decode_line, decode_point, encode_line, encode_point, pack_line, unpack_line, MOST_POINTS,
 };
 pub use refusal::Refusal;
-pub use values::{dequantize, quantize, Dequantized, Setting};
+pub use values::{dequantize, quantize, Dequantized, Quantized, Setting};

@@ -1,8 +1,9 @@
 //! Lines and points.
 
+use crate::clamped::clamped;
 use crate::ffi;
 use crate::refusal::{accepted, answer};
-use crate::{Layout, Refusal};
+use crate::{Clamped, Layout, Refusal};
 
 /// The most points of a line.
 pub const MOST_POINTS: usize = 4096;
@@ -71,8 +72,8 @@ pub fn decode_line(layout: Layout, packed: &[u8], out: &mut [f32]) -> Result<usi
     line(ffi::imurraqi_decode_line, layout, packed, out)
 }
 
-/// Encodes one point's three floats, as a line of one point. Refused: 9, then 13,
-/// then 12.
+/// Encodes one point's three floats, as a line of one point, and tells how many of them
+/// were cut. Refused: 9, then 13, then 12.
 ///
 /// ```
 /// use imurraqi::{encode_point, Layout, Refusal};
@@ -81,36 +82,58 @@ pub fn decode_line(layout: Layout, packed: &[u8], out: &mut [f32]) -> Result<usi
 /// let mut point = [0; 4];
 /// encode_point(layout, [0.12557077, 0.5, -0.5], &mut point)?;
 /// assert_eq!(point, [0xae, 0x00, 0x0f, 0x04]);
+/// assert_eq!(encode_point(layout, [1.0, 2.0, f32::NEG_INFINITY], &mut point)?.cuts, 2);
 /// # Ok::<(), Refusal>(())
 /// ```
 #[inline]
-pub fn encode_point(layout: Layout, point: [f32; 3], out: &mut [u8]) -> Result<(), Refusal> {
+pub fn encode_point(layout: Layout, point: [f32; 3], out: &mut [u8]) -> Result<Clamped, Refusal> {
     let [first, second, third] = point;
     // SAFETY: the pointer is to as many bytes as the length says, and nothing else
-    // uses them.
-    accepted(unsafe {
-        let (layout, out_len) = (layout.to_bytes(), out.len());
-        ffi::imurraqi_encode_point(&layout, first, second, third, out.as_mut_ptr(), out_len)
+    // uses them, nor the number of cuts.
+    clamped(|cuts| unsafe {
+        ffi::imurraqi_encode_point(
+            &layout.to_bytes(),
+            first,
+            second,
+            third,
+            out.as_mut_ptr(),
+            out.len(),
+            cuts,
+        )
     })
 }
 
 /// Encodes a line of floats, three a point in channel order, to packed points, each
-/// float as the code that [`quantize`](crate::quantize) answers. Answers the count of
-/// points. Refused: 9, then 13, then 12.
+/// float as the code that [`quantize`](crate::quantize) answers, and cut where that says
+/// so. Answers the count of points and the number of cuts. Refused: 9, then 13, then 12.
 ///
 /// ```
-/// use imurraqi::{encode_line, Layout, Refusal};
+/// use imurraqi::{encode_line, Clamped, Layout, Refusal};
 ///
 /// let layout = Layout::from_bytes([2, 2, 1, 10, 4, 0, 10, 20]);
-/// let mut packed = [0; 4];
-/// let not_a_number = [0.0, f32::NAN, 0.0];
+/// let mut packed = [0; 8];
+/// let not_a_number = [0.0, 0.0, 0.0, 0.0, f32::NAN, 0.0];
 /// assert_eq!(encode_line(layout, &not_a_number, &mut packed), Err(Refusal::NOT_A_NUMBER));
-/// assert_eq!(encode_line(layout, &[0.12557077, 0.5, -0.5], &mut packed), Ok(1));
-/// assert_eq!(packed, [0xae, 0x00, 0x0f, 0x04]);
+/// // The last brightness, 4 (16 + 219 * 1.25) = 1159, is beyond 1019.
+/// let values = [0.12557077, 0.5, -0.5, 1.25, 0.5, -0.5];
+/// let encoded = encode_line(layout, &values, &mut packed);
+/// assert_eq!(encoded, Ok(Clamped { points: 2, cuts: 1 }));
+/// assert_eq!(packed, [0xae, 0x00, 0x0f, 0x04, 0xfb, 0x03, 0x0f, 0x04]);
 /// ```
 #[inline]
-pub fn encode_line(layout: Layout, values: &[f32], out: &mut [u8]) -> Result<usize, Refusal> {
-    line(ffi::imurraqi_encode_line, layout, values, out)
+pub fn encode_line(layout: Layout, values: &[f32], out: &mut [u8]) -> Result<Clamped, Refusal> {
+    // SAFETY: the pointers are to as many elements as the lengths say, and nothing
+    // else uses the output, nor the number of cuts.
+    clamped(|cuts| unsafe {
+        ffi::imurraqi_encode_line(
+            &layout.to_bytes(),
+            values.as_ptr(),
+            values.len(),
+            out.as_mut_ptr(),
+            out.len(),
+            cuts,
+        )
+    })
 }
 
 /// The codes of a line of packed points, three a point in channel order. Answers the
@@ -150,7 +173,7 @@ pub fn unpack_line(layout: Layout, packed: &[u8], out: &mut [u16]) -> Result<usi
 /// let mut point = [0; 4];
 /// pack_line(layout, &[1023, 0, 1023], &mut point)?;
 /// assert_eq!(point, [0xff, 0x03, 0xf0, 0x3f]);
-/// encode_point(layout, [2.0, -1.0, f32::INFINITY], &mut point)?;
+/// assert_eq!(encode_point(layout, [2.0, -1.0, f32::INFINITY], &mut point)?.cuts, 3);
 /// assert_eq!(point, [0xfb, 0x13, 0xb0, 0x3f]);
 /// # Ok::<(), Refusal>(())
 /// ```

@@ -36,6 +36,16 @@ impl Dequantized {
     }
 }
 
+/// The code of a float, and whether the float was cut.
+#[derive(Clone, Copy, Debug, PartialEq, Eq, Hash)]
+pub struct Quantized {
+    /// The code, within the ends of those that the range makes.
+    pub code: u16,
+    /// Whether the rounded number lay beyond the ends, so that the clamp moved it. An
+    /// infinity is always cut.
+    pub cut: bool,
+}
+
 /// The float of a code: the f32 nearest to the fraction that it stands for. Every code
 /// of the depth stands for one, those that its range never makes too. Refused: 9, then
 /// 14.
@@ -72,29 +82,37 @@ pub fn dequantize(setting: Setting, code: u16) -> Result<Dequantized, Refusal> {
 /// The code of a float, worked out from its exact value and clamped to the codes that
 /// its range makes. Narrow range makes 1 to 254, 4 to 1019 and 16 to 4079 at 8, 10 and
 /// 12 bits, since video keeps the codes beyond for timing. Legacy full range makes none
-/// above 4092 at 12 bits. Infinities give the ends. Refused: 9, then 12.
+/// above 4092 at 12 bits. Infinities give the ends. What was clamped is said to be cut,
+/// but not a number that is an end. Refused: 9, then 12.
 ///
 /// ```
-/// use imurraqi::{model, quantize, range, Refusal, Setting};
+/// use imurraqi::{model, quantize, range, Quantized, Refusal, Setting};
 ///
 /// let cb = Setting { model: model::YCBCR, range: range::NARROW, depth: 10, channel: 1 };
-/// assert_eq!(quantize(cb, 0.5), Ok(960));
-/// assert_eq!(quantize(cb, 511.0 / 896.0), Ok(1019));
-/// assert_eq!(quantize(cb, f32::NEG_INFINITY), Ok(4));
+/// assert_eq!(quantize(cb, 0.5), Ok(Quantized { code: 960, cut: false }));
+/// // An end, and beyond it.
+/// assert_eq!(quantize(cb, 507.0 / 896.0), Ok(Quantized { code: 1019, cut: false }));
+/// assert_eq!(quantize(cb, 511.0 / 896.0), Ok(Quantized { code: 1019, cut: true }));
+/// assert_eq!(quantize(cb, f32::NEG_INFINITY), Ok(Quantized { code: 4, cut: true }));
 /// assert_eq!(quantize(cb, f32::NAN), Err(Refusal::NOT_A_NUMBER));
 /// let early = Setting { range: range::LEGACY_FULL, depth: 12, ..cb };
-/// assert_eq!(quantize(early, 0.5), Ok(4092));
+/// assert_eq!(quantize(early, 0.5), Ok(Quantized { code: 4092, cut: true }));
 /// ```
 #[inline]
-pub fn quantize(setting: Setting, value: f32) -> Result<u16, Refusal> {
+pub fn quantize(setting: Setting, value: f32) -> Result<Quantized, Refusal> {
     let Setting {
         model,
         range,
         depth,
         channel,
     } = setting;
-    // SAFETY: the function takes numbers alone.
-    let code = answer(unsafe { ffi::imurraqi_quantize(model, range, depth, channel, value) })?;
-    // A code has 12 bits at most.
-    Ok(code as u16)
+    let mut cuts = 0;
+    // SAFETY: nothing else uses the number of cuts.
+    let code =
+        answer(unsafe { ffi::imurraqi_quantize(model, range, depth, channel, value, &mut cuts) })?;
+    Ok(Quantized {
+        // A code has 12 bits at most.
+        code: code as u16,
+        cut: cuts != 0,
+    })
 }

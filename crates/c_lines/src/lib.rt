@@ -6,8 +6,9 @@ ghost use Rattle.line.specs.Answer.{unpackAnswer, unpackOutput, packAnswer, pac
 ghost use Rattle.encoding.specs.Encode.{encodeAnswer, encodeOutput};
 ghost use Rattle.decoding.specs.Decode.{decodeAnswer, decodeOutput, decodePoint};
 ghost use Rattle.c_types.specs.Layouts.{layoutOf};
-ghost use Rattle.c_types.specs.Numbers.{lineNumber};
+ghost use Rattle.c_types.specs.Numbers.{lineNumber, clampedNumber, cutsAfter};
 ghost use Rattle.c_lines.specs.Points.{pointOf, decodedNumber, decodedValues};
+use c_types::clamped_number;
 use c_types::layout_of;
 use c_types::line_number;
 use c_types::refused;
@@ -41,7 +42,7 @@ pub extern "C" fn imurraqi_decode_line(layout: &[u8; 8], packed: &[u8], out: &mu
     line_number(scanline::decode_line(layout_of(layout), packed, out))
 }
 
-// Encodes one point of three values. Answers 1.
+// Encodes one point of three values. Answers 1, and behind the last pointer how many of them were cut.
 #[no_mangle]
 pub extern "C" fn imurraqi_encode_point(
     layout: &[u8; 8],
@@ -49,25 +50,33 @@ pub extern "C" fn imurraqi_encode_point(
     channel1: f32,
     channel2: f32,
     out: &mut [u8],
+    cuts: &mut u32,
 ) -> i64
-    ensures answer { λ r. ⌜ r ≡ lineNumber (encodeAnswer (layoutOf (now (layout .entry))) (pointValues (pointOf channel0 channel1 channel2)) (length (now (out .entry)))) ⌝ }
+    ensures answer { λ r. ⌜ r ≡ clampedNumber (encodeAnswer (layoutOf (now (layout .entry))) (pointValues (pointOf channel0 channel1 channel2)) (length (now (out .entry)))) ⌝ }
     ensures memory { λ _. ⌜ now (out .exit) ≡ encodeOutput (layoutOf (now (layout .entry))) (pointValues (pointOf channel0 channel1 channel2)) (now (out .entry)) ⌝ }
+    ensures cuts { λ _. ⌜ now (cuts .exit) ≡ cutsAfter (encodeAnswer (layoutOf (now (layout .entry))) (pointValues (pointOf channel0 channel1 channel2)) (length (now (out .entry)))) (now (cuts .entry)) ⌝ }
 {
     let point = Point {
         channel0: channel0,
         channel1: channel1,
         channel2: channel2,
     };
-    line_number(scanline::encode_point(layout_of(layout), point, out))
+    clamped_number(scanline::encode_point(layout_of(layout), point, out), cuts)
 }
 
-// Encodes a line of values, three a point. Answers the count of points.
+// Encodes a line of values, three a point. Answers the count of points, and behind the last pointer how many values were cut.
 #[no_mangle]
-pub extern "C" fn imurraqi_encode_line(layout: &[u8; 8], values: &[f32], out: &mut [u8]) -> i64
-    ensures answer { λ r. ⌜ r ≡ lineNumber (encodeAnswer (layoutOf (now (layout .entry))) (now (values .entry)) (length (now (out .entry)))) ⌝ }
+pub extern "C" fn imurraqi_encode_line(
+    layout: &[u8; 8],
+    values: &[f32],
+    out: &mut [u8],
+    cuts: &mut u32,
+) -> i64
+    ensures answer { λ r. ⌜ r ≡ clampedNumber (encodeAnswer (layoutOf (now (layout .entry))) (now (values .entry)) (length (now (out .entry)))) ⌝ }
     ensures memory { λ _. ⌜ now (out .exit) ≡ encodeOutput (layoutOf (now (layout .entry))) (now (values .entry)) (now (out .entry)) ⌝ }
+    ensures cuts { λ _. ⌜ now (cuts .exit) ≡ cutsAfter (encodeAnswer (layoutOf (now (layout .entry))) (now (values .entry)) (length (now (out .entry)))) (now (cuts .entry)) ⌝ }
 {
-    line_number(scanline::encode_line(layout_of(layout), values, out))
+    clamped_number(scanline::encode_line(layout_of(layout), values, out), cuts)
 }
 
 // The codes of a line of points, three a point. Answers the count of points.

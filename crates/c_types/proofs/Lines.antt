@@ -12,8 +12,10 @@ use Rattle.lists.proofs.Tests.{and3}
 use Rattle.refusal.specs.Refusal.{outside, wrongLineOrOutput}
 use Rattle.line.specs.declared.LineAnswer.{LineAnswer}
 use Rattle.line.specs.declared.LineAnswer.the-variants.{Points, Refused}
+use Rattle.line.specs.declared.ClampedAnswer.{ClampedAnswer}
+use Rattle.line.specs.declared.ClampedAnswer.the-variants.{Points as PointsAndCuts, Refused as NotClamped}
 use Rattle.line.specs.Answer.{mostPoints, fitting}
-use Rattle.c_types.specs.Numbers.{lineNumber, counted}
+use Rattle.c_types.specs.Numbers.{lineNumber, withoutCuts, clampedNumber, cutsAfter, counted}
 use Rattle.c_types.proofs.Numbers.{passed, passed-count}
 
 -- a count that a line can have, or a refusal's number of at most 15
@@ -44,6 +46,14 @@ of-points n z e h f = rw (e, le-leb n mostPoints h) f
 pub of-too-many : {a : LineAnswer} (n : ℕ) → a ≡ Points n → mostPoints < n → pos 0 ≡ cond (counted a) (lineNumber a) (pos 0)
 of-too-many n e h = rw (e, lt-leb n mostPoints h) refl
 
+-- a count handed on by a call, whether a line can have it or not
+pub passed-points : (n : ℕ) (z : ℤ) → z ≡ cond (leb n mostPoints) (pos n) (pos 0) → toZ w64 (ofZ w64 z) ≡ cond (leb n mostPoints) (pos n) (pos 0)
+passed-points n z e = go (leb n mostPoints) refl e
+  where
+    go : (b : Bool) → leb n mostPoints ≡ b → z ≡ cond b (pos n) (pos 0) → toZ w64 (ofZ w64 z) ≡ cond b (pos n) (pos 0)
+    go true h f = passed-count n (omega (arith, leb-true n mostPoints h)) z f
+    go false h f = passed-count 0 (omega arith) z f
+
 -- a line's number handed on by a call
 passed-line : (a : LineAnswer) → smallLine a ≡ true → (z : ℤ) → z ≡ cond (counted a) (lineNumber a) (pos 0) → toZ w64 (ofZ w64 z) ≡ lineNumber a
 passed-line (Points n) h z e = passed-count n (omega (arith, leb-true n mostPoints h)) z (e ∙ ap (λ (b : Bool). cond b (pos n) (pos 0)) h)
@@ -52,3 +62,18 @@ passed-line (Refused k) h z e = passed k (omega (arith, leb-true k 15 h)) z e
 -- and that of the answer which the library gave
 pub handed : {a : LineAnswer} (b : LineAnswer) → smallLine b ≡ true → a ≡ b → (z : ℤ) → z ≡ cond (counted a) (lineNumber a) (pos 0) → toZ w64 (ofZ w64 z) ≡ lineNumber b
 handed b h e z f = passed-line b h z (f ∙ ap (λ (a : LineAnswer). cond (counted a) (lineNumber a) (pos 0)) e)
+
+-- of an answer with cuts, row by row
+pub three-clamped : (a b c : Bool) (k n cuts : ℕ) → leb k 15 ≡ true → (a ≡ true → b ≡ true → leb n mostPoints ≡ true)
+    → smallLine (withoutCuts (cond (not a) (NotClamped outside) (cond (not b) (NotClamped wrongLineOrOutput) (cond (not c) (NotClamped k) (PointsAndCuts n cuts))))) ≡ true
+three-clamped false b c k n cuts g h = refl
+three-clamped true false c k n cuts g h = refl
+three-clamped true true false k n cuts g h = g
+three-clamped true true true k n cuts g h = h refl refl
+
+-- its number and its cuts, handed on as the library gave them
+pub handed-clamped : {a : ClampedAnswer} (b : ClampedAnswer) → smallLine (withoutCuts b) ≡ true → a ≡ b → (z : ℤ) → z ≡ cond (counted (withoutCuts a)) (clampedNumber a) (pos 0) → toZ w64 (ofZ w64 z) ≡ clampedNumber b
+handed-clamped b h e z f = handed (withoutCuts b) h (ap withoutCuts e) z f
+
+pub handed-cuts : {a b : ClampedAnswer} (before : ℕ) {after : ℕ} → a ≡ b → after ≡ cutsAfter a before → after ≡ cutsAfter b before
+handed-cuts before e f = f ∙ ap (λ (x : ClampedAnswer). cutsAfter x before) e

@@ -4,9 +4,10 @@ ghost use mathlib.Core.Path.{_≡_};
 ghost use mathlib.Core.Bool.{cond};
 ghost use lib.IntN.{pos, negℤ};
 ghost use Rattle.c_types.specs.Layouts.{layoutOf, layoutBytes, factsOf};
-ghost use Rattle.c_types.specs.Numbers.{lineNumber, counted};
+ghost use Rattle.c_types.specs.Numbers.{lineNumber, withoutCuts, clampedNumber, cutsAfter, counted};
 use card_table::Facts;
 use layout::Layout;
+use line::ClampedAnswer;
 use line::LineAnswer;
 use line::MOST_POINTS;
 
@@ -31,6 +32,20 @@ pub fn line_number(answer: LineAnswer) -> i64
             }
         }
         LineAnswer::Refused(number) => refused(number),
+    }
+}
+
+// The same of an answer with cuts, whose number of cuts goes behind the pointer; a refusal leaves it as it was.
+pub fn clamped_number(answer: ClampedAnswer, cuts: &mut u32) -> i64
+    ensures answer { λ r. ⌜ r ≡ cond (counted (withoutCuts answer)) (clampedNumber answer) (pos 0) ⌝ }
+    ensures memory { λ _. ⌜ now (cuts .exit) ≡ cutsAfter answer (now (cuts .entry)) ⌝ }
+{
+    match answer {
+        ClampedAnswer::Points(count, cut) => {
+            *cuts = cut;
+            line_number(LineAnswer::Points(count))
+        }
+        ClampedAnswer::Refused(number) => line_number(LineAnswer::Refused(number)),
     }
 }
 

@@ -1,6 +1,8 @@
 -- One value's answers as C sees them: a number of 0 or more is the answer, and a refusal is minus its number (include/imurraqi.h). Assumes nothing.
+use Prim.Native.Nat.{ℕ}
 use lib.IntN.{ℤ, pos, negℤ}
 use lib.Ieee.{Float}
+use Rattle.lists.specs.Lists.{oneIf}
 use Rattle.quantization.specs.declared.Dequantized.{Dequantized}
 use Rattle.quantization.specs.declared.Dequantized.the-variants.{Brightness, Difference, Refused as NoValue}
 use Rattle.quantization.specs.declared.Quantized.{Quantized}
@@ -20,5 +22,10 @@ dequantizedValue (NoValue k) before = before
 
 -- the code
 abbrev pub quantizedNumber : Quantized → ℤ
-quantizedNumber (Code c) = pos c
+quantizedNumber (Code c) = pos (c .code)
 quantizedNumber (NoCode k) = negℤ (pos k)
+
+-- the number behind the pointer: how many values were cut, 1 or 0, or what stood there before where it is refused
+abbrev pub quantizedCuts : Quantized → ℕ → ℕ
+quantizedCuts (Code c) before = oneIf (c .cut)
+quantizedCuts (NoCode k) before = before

@@ -1,7 +1,7 @@
 // The C interface of one value: include/imurraqi.h declares the same functions.
 ghost use mathlib.Core.Path.{_≡_};
 ghost use Rattle.quantization.specs.Answer.{dequantized, quantized};
-ghost use Rattle.c_values.specs.Numbers.{dequantizedNumber, dequantizedValue, quantizedNumber};
+ghost use Rattle.c_values.specs.Numbers.{dequantizedNumber, dequantizedValue, quantizedNumber, quantizedCuts};
 use c_types::refused;
 use quantization::Dequantized;
 use quantization::Quantized;
@@ -32,13 +32,24 @@ pub extern "C" fn imurraqi_dequantize(
     }
 }
 
-// The code of a float.
+// The code of a float. Behind `cuts` stands then whether the clamp cut it: 1, or 0.
 #[no_mangle]
-pub extern "C" fn imurraqi_quantize(model: u8, range: u8, depth: u8, channel: u8, value: f32) -> i64
+pub extern "C" fn imurraqi_quantize(
+    model: u8,
+    range: u8,
+    depth: u8,
+    channel: u8,
+    value: f32,
+    cuts: &mut u32,
+) -> i64
     ensures answer { λ r. ⌜ r ≡ quantizedNumber (quantized model range depth channel value) ⌝ }
+    ensures memory { λ _. ⌜ now (cuts .exit) ≡ quantizedCuts (quantized model range depth channel value) (now (cuts .entry)) ⌝ }
 {
     match quantization::quantize(model, range, depth, channel, value) {
-        Quantized::Code(code) => code as i64,
+        Quantized::Code(clamped) => {
+            *cuts = clamped.cut as u32;
+            clamped.code as i64
+        }
         Quantized::Refused(number) => refused(number),
     }
 }

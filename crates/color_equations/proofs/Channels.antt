@@ -3,13 +3,14 @@ use mathlib.Core.Path.{_≡_}
 use Prim.Native.Nat.{ℕ}
 use Rattle.layout.specs.declared.range.Range.{Range}
 use Rattle.layout.specs.declared.kind.Kind.the-variants.{Brightness, Difference}
+use Rattle.fractions.specs.declared.Clamped.{Clamped}
 use Rattle.scales.specs.Scale.{scaleOf}
 use Rattle.quantization.specs.Code.{codeOfValue}
 use Rattle.color_equations.specs.declared.weights.Weights.{Weights}
 use Rattle.color_equations.specs.Equations.{lumaOf, chromaOf, primaryOf, greenFrom}
 use Rattle.color_equations.specs.Conversion.{brightness, difference, pick, ycbcrOf, rgbOf}
 
-module _ (w : Weights) (n : ℕ) (from to : Range) (j : ℕ) {a b c : ℕ} where
+module _ (w : Weights) (n : ℕ) (from to : Range) (j : ℕ) {a b c : Clamped} where
   pub ycbcr-by : (x y z : ℕ) → let red = brightness from n x in
       let blue = brightness from n z in
       let luma = lumaOf w red (brightness from n y) blue in

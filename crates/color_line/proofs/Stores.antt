@@ -14,11 +14,12 @@ use Rattle.lists.specs.inner.Stores.{written}
 use Rattle.lists.proofs.Lists.{getD-tabulate, length-written}
 use Rattle.lists.proofs.Tests.{and-left, and-right}
 use Rattle.lists.proofs.Filled.{Filled, filled-wide}
-use Rattle.color_equations.specs.Line.{convertedAt}
-use Rattle.floats.specs.inner.Floor.{wholeOf, wholeWithin}
+use Rattle.fractions.specs.declared.Clamped.{Clamped}
+use Rattle.color_equations.specs.Line.{Converter}
+use Rattle.floats.specs.inner.Floor.{wholeOf, clampedBy}
 use Rattle.color_line.specs.declared.row.FloatRow.{FloatRow}
 use Rattle.color_line.specs.declared.row.FloatRows.{FloatRows}
-use Rattle.color_line.specs.inner.Rows.{rowCode, rowsCode, alike, numberOf, pointOf, shortOf, storedOf}
+use Rattle.color_line.specs.inner.Rows.{rowCode, rowsCode, alike, codeAt, numberOf, pointOf, shortOf, storedOf}
 use Rattle.color_line.proofs.Lines.{pointAt, converted-at}
 
 module _ (v : List ℕ) (i : ℕ) (xs : List ℕ) where
@@ -39,44 +40,42 @@ shorts g h (suc zero) l = let a = h 0 in let b = h 1 in let c = h 2 in omega ari
 shorts g h (suc (suc zero)) l = let a = h 0 in let b = h 1 in let c = h 2 in omega arith
 shorts g h (suc (suc (suc j))) l = absurd (omega arith)
 
-module _ (f : ℕ → ℕ → ℕ → ℕ → ℕ) (small : (x y z j : ℕ) → f x y z j < 65536) (cs : List ℕ) where
-  short-at : (i v j : ℕ) → v ≡ pointOf f cs i → j < 3 → shortOf v j ≡ convertedAt f cs (3 * i + j)
+module _ (f : Converter) (small : (x y z j : ℕ) → f x y z j .code < 65536) (cs : List ℕ) where
+  short-at : (i v j : ℕ) → v ≡ pointOf f cs i .number → j < 3 → shortOf v j ≡ codeAt f cs (3 * i + j)
   unfolding pointOf
-  short-at i v j e h = ap (λ (x : ℕ). shortOf x j) e ∙ shorts (pointAt f cs i) (small (getD cs (3 * i) 0) (getD cs (3 * i + 1) 0) (getD cs (3 * i + 2) 0)) j h ∙ converted-at f cs i j h
+  short-at i v j e h =
+      ap (λ (x : ℕ). shortOf x j) e ∙ shorts (λ k. pointAt f cs i k .code) (small (getD cs (3 * i) 0) (getD cs (3 * i + 1) 0) (getD cs (3 * i + 2) 0)) j h
+      ∙ ap (λ (x : Clamped). x .code) (converted-at f cs i j h)
 
   -- one turn: `wide` codes of point i's number v are stored
-  pub point-more : (out xs ys : List ℕ) (i v wide : ℕ) {next : ℕ} → i + 1 ≡ next → v ≡ pointOf f cs i → 3 ≤ wide → 3 * i + wide ≤ length out → Filled out (convertedAt f cs) (3 * i) xs
-      → ys ≡ written xs (3 * i) (shortOf v) wide → Filled out (convertedAt f cs) (3 * next) ys
+  pub point-more : (out xs ys : List ℕ) (i v wide : ℕ) {next : ℕ} → i + 1 ≡ next → v ≡ pointOf f cs i .number → 3 ≤ wide → 3 * i + wide ≤ length out → Filled out (codeAt f cs) (3 * i) xs
+      → ys ≡ written xs (3 * i) (shortOf v) wide → Filled out (codeAt f cs) (3 * next) ys
   point-more out xs ys i v wide e is w room h g = filled-wide (shortOf v) 3 wide (omega arith) w room (λ j l. short-at i v j is l) h g
 
   -- the first k of the numbers v, which are points from i on
-  pub run-filled : (v : List ℕ) (i : ℕ) (out xs : List ℕ) (k : ℕ) → k ≤ 8 → 3 * (i + k) + 1 ≤ length out → ((j : ℕ) → j < 8 → getD v j 0 ≡ pointOf f cs (i + j)) → Filled out (convertedAt f cs) (3 * i) xs
-      → Filled out (convertedAt f cs) (3 * (i + k)) (storedOf v i k xs)
+  pub run-filled : (v : List ℕ) (i : ℕ) (out xs : List ℕ) (k : ℕ) → k ≤ 8 → 3 * (i + k) + 1 ≤ length out → ((j : ℕ) → j < 8 → getD v j 0 ≡ pointOf f cs (i + j) .number) → Filled out (codeAt f cs) (3 * i) xs
+      → Filled out (codeAt f cs) (3 * (i + k)) (storedOf v i k xs)
   unfolding storedOf
-  run-filled v i out xs zero h room g e = subst (λ (n : ℕ). Filled out (convertedAt f cs) (3 * n) xs) (sym (add-zero i)) e
+  run-filled v i out xs zero h room g e = subst (λ (n : ℕ). Filled out (codeAt f cs) (3 * n) xs) (sym (add-zero i)) e
   run-filled v i out xs (suc k) h room g e =
       point-more out (storedOf v i k xs) (written (storedOf v i k xs) (3 * (i + k)) (shortOf (getD v k 0)) 4) (i + k) (getD v k 0) 4 (omega arith) (g k (omega arith)) (omega arith) (omega arith) (run-filled v i out xs k (omega arith) (omega arith) g e) refl
 
--- of the front of a line, less
-pub filled-less : {out xs : List ℕ} {g : ℕ → ℕ} {n : ℕ} (m : ℕ) → m ≤ n → Filled out g n xs → Filled out g m xs
-filled-less m h e = record { long = e .long; begins = λ d k l. e .begins d k (omega arith) }
-
 -- a row's code has 12 bits
-row-small : (r : FloatRow) (x y z : ℕ) → rowCode r x y z < 65536
-unfolding rowCode wholeWithin wholeOf
+row-small : (r : FloatRow) (x y z : ℕ) → rowCode r x y z .code < 65536
+unfolding rowCode clampedBy wholeOf
 row-small r x y z = omega arith
 
-pub rows-small : (rows : FloatRows) (x y z j : ℕ) → rowsCode rows x y z j < 65536
+pub rows-small : (rows : FloatRows) (x y z j : ℕ) → rowsCode rows x y z j .code < 65536
 unfolding rowsCode
 rows-small rows x y z zero = row-small (rows .first) x y z
 rows-small rows x y z (suc zero) = row-small (rows .second) x y z
 rows-small rows x y z (suc (suc j)) = row-small (rows .third) x y z
 
 -- a turn: eight points of a line in numbers v, from point i on
-pub turn-filled : (rows : FloatRows) (cs : List ℕ) (i : ℕ) (out xs v ys : List ℕ) → 3 * i + 24 ≤ length out → v ≡ tabulate 8 (λ j. pointOf (rowsCode rows) cs (i + j)) → Filled out (convertedAt (rowsCode rows) cs) (3 * i) xs
-    → ys ≡ written (storedOf v i 7 xs) (3 * i + 21) (shortOf (getD v 7 0)) 3 → Filled out (convertedAt (rowsCode rows) cs) (3 * (i + 8)) ys
+pub turn-filled : (rows : FloatRows) (cs : List ℕ) (i : ℕ) (out xs v ys : List ℕ) → 3 * i + 24 ≤ length out → v ≡ tabulate 8 (λ j. pointOf (rowsCode rows) cs (i + j) .number) → Filled out (codeAt (rowsCode rows) cs) (3 * i) xs
+    → ys ≡ written (storedOf v i 7 xs) (3 * i + 21) (shortOf (getD v 7 0)) 3 → Filled out (codeAt (rowsCode rows) cs) (3 * (i + 8)) ys
 turn-filled rows cs i out xs v ys room e d f =
-    let is : (j : ℕ) → j < 8 → getD v j 0 ≡ pointOf (rowsCode rows) cs (i + j) = λ j l. ap (λ (zs : List ℕ). getD zs j 0) e ∙ getD-tabulate 8 (λ m. pointOf (rowsCode rows) cs (i + m)) j 0 l in
+    let is : (j : ℕ) → j < 8 → getD v j 0 ≡ pointOf (rowsCode rows) cs (i + j) .number = λ j l. ap (λ (zs : List ℕ). getD zs j 0) e ∙ getD-tabulate 8 (λ m. pointOf (rowsCode rows) cs (i + m) .number) j 0 l in
     let at : 3 * i + 21 ≡ 3 * (i + 7) = omega arith in
     point-more (rowsCode rows) (rows-small rows) cs out (storedOf v i 7 xs) ys (i + 7) (getD v 7 0) 3 (omega arith) (is 7 (omega arith)) (omega arith) (omega arith)
     (run-filled (rowsCode rows) (rows-small rows) cs v i out xs 7 (omega arith) (omega arith) is d) (f ∙ ap (λ (m : ℕ). written (storedOf v i 7 xs) m (shortOf (getD v 7 0)) 3) at)

@@ -4,6 +4,7 @@ ghost use Prim.Native.Nat.{_+_, _^_, _≤_};
 ghost use Rattle.color_rows.specs.inner.Rows.{codedOf, differenceOf, floatsOf};
 ghost use Rattle.color_rows.specs.inner.Sizes.{Small};
 use color_line::FloatRow;
+use floats::Ends;
 use scales::Scale;
 
 // plus0 x + plus1 y + plus2 z + plus - (minus0 x + minus1 y + minus2 z + minus).
@@ -24,21 +25,21 @@ pub struct Value {
     pub half: u64,
 }
 
-// The code is the whole part of sum / over, within low .. high.
+// The code is the whole part of sum / over, within the ends, and is cut where that lies outside them.
 pub struct Row {
     pub sum: Linear,
     pub over: u64,
-    pub low: u16,
-    pub high: u16,
+    pub ends: Ends,
 }
 
 // The row whose whole part is the code of a value on a scale: 1/2 + span * value + base. It serves every range: the paper's
-// two roundings differ only below 0, where both clamp to the low end.
+// two roundings differ only below 0, where both clamp to the low end, and what they take to be cut there the scale's ends tell.
 fn coded(value: Value, span: u64, to: Scale) -> Row
     requires { ⌜ Small (codedOf value span to) ⌝ }
     ensures { λ r. ⌜ r ≡ codedOf value span to ⌝ }
 {
     let sum = value.sum;
+    let ends = to.ends();
     Row {
         sum: Linear {
             plus0: span * sum.plus0,
@@ -51,8 +52,7 @@ fn coded(value: Value, span: u64, to: Scale) -> Row
             minus: span * sum.minus,
         },
         over: 2 * value.half,
-        low: to.low,
-        high: to.high,
+        ends,
     }
 }
 
@@ -70,14 +70,14 @@ fn floats(row: Row) -> FloatRow
     ensures { λ r. ⌜ r ≡ floatsOf row ⌝ }
 {
     let sum = row.sum;
+    let ends = row.ends;
     FloatRow {
         first: difference(sum.plus0, sum.minus0),
         second: difference(sum.plus1, sum.minus1),
         third: difference(sum.plus2, sum.minus2),
         more: difference(sum.plus + 4096 * row.over, sum.minus),
         over: row.over as f64,
-        low: row.low,
-        high: row.high,
+        ends: ends.floats(),
     }
 }
 

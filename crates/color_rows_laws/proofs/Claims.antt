@@ -8,17 +8,19 @@ use Rattle.layout.specs.Layout.{bitsOf, topOf}
 use Rattle.layout.proofs.Depths.{Steps, depth-steps, known-bits}
 use Rattle.scales.specs.declared.scale.Scale.{Scale}
 use Rattle.scales.specs.Scale.{scaleOf}
+use Rattle.scales.proofs.Scales.{fine}
 use Rattle.color_equations.specs.Conversion.{ycbcrOf, rgbOf}
 use Rattle.color_equations.proofs.Channels.{ycbcr-by, rgb-by}
 use Rattle.color_line.specs.inner.Rows.{rowCode, rowsCode}
 use Rattle.color_rows.specs.declared.linear.Row.{Row}
 use Rattle.color_rows.specs.declared.numbers.Numbers.{Numbers}
 use Rattle.color_rows.specs.inner.Known.{numbersOf}
-use Rattle.color_rows.specs.inner.Rows.{wholeAt, floatsOf, plainGreenRow, greenRowFrom, ycbcrRows, rgbRows}
+use Rattle.color_rows.specs.inner.Rows.{floatsOf, plainGreenRow, greenRowFrom, ycbcrRows, rgbRows}
 use Rattle.color_rows.specs.inner.Sizes.{Fits, SmallNumbers}
 use Rattle.color_rows.proofs.Known.{passed, numbers-small}
 use Rattle.color_rows.proofs.Sizes.{top-least, top-most, luma-row-fits, cb-row-fits, cr-row-fits, red-row-fits, green-row-fits, blue-row-fits}
 use Rattle.color_rows_laws.specs.Claims.{ToYcbcrExact, ToRgbExact}
+use Rattle.color_rows_laws.proofs.Rows.{clampedAt}
 use Rattle.color_rows_laws.proofs.Quotients.{row-is}
 use Rattle.color_rows_laws.proofs.Lowest.{Right, terms-right, lowest-whole}
 use Rattle.color_rows_laws.proofs.Equations.{luma-row, cb-row, cr-row, red-row, green-row, blue-row}
@@ -31,24 +33,24 @@ module _ (m : Numbers) (h : SmallNumbers m) (x y z : ℕ) where
   steps = depth-steps (m .depth)
 
   module _ (hx : x ≤ topOf n) (hy : y ≤ topOf n) (hz : z ≤ topOf n) where
-    in-floats : (r : Row) → Fits r (topOf n) → rowCode (floatsOf r) x y z ≡ wholeAt r x y z
+    in-floats : (r : Row) → Fits r (topOf n) → rowCode (floatsOf r) x y z ≡ clampedAt r x y z
     in-floats r f = row-is r (topOf n) x y z f (top-least n steps) (top-most n steps) hx hy hz
 
     ycbcr-exact : (j : ℕ) → rowsCode (ycbcrRows m) x y z j ≡ ycbcrOf (m .weights) n (m .from) (m .to) x y z j
     unfolding rowsCode ycbcrRows
     ycbcr-exact j =
         ycbcr-by (m .weights) n (m .from) (m .to) j x y z
-        (in-floats _ (luma-row-fits m h) ∙ luma-row (m .weights) n (m .from) (h .weights) steps (scaleOf (m .to) n Brightness) x y z)
-        (in-floats _ (cb-row-fits m h) ∙ cb-row (m .weights) n (m .from) (h .weights) steps (scaleOf (m .to) n Difference) x y z)
-        (in-floats _ (cr-row-fits m h) ∙ cr-row (m .weights) n (m .from) (h .weights) steps (scaleOf (m .to) n Difference) x y z)
+        (in-floats _ (luma-row-fits m h) ∙ luma-row (m .weights) n (m .from) (h .weights) steps (scaleOf (m .to) n Brightness) (fine (m .to) Brightness n steps .zero) x y z)
+        (in-floats _ (cb-row-fits m h) ∙ cb-row (m .weights) n (m .from) (h .weights) steps (scaleOf (m .to) n Difference) (fine (m .to) Difference n steps .zero) x y z)
+        (in-floats _ (cr-row-fits m h) ∙ cr-row (m .weights) n (m .from) (h .weights) steps (scaleOf (m .to) n Difference) (fine (m .to) Difference n steps .zero) x y z)
 
     abbrev out : Scale
     out = scaleOf (m .to) n Brightness
 
     -- G' out of each range is the equation's
-    green-whole : Right (m .weights) (m .green) → (from : Range) → wholeAt (greenRowFrom from m) x y z ≡ wholeAt (plainGreenRow from m) x y z
+    green-whole : Right (m .weights) (m .green) → (from : Range) → clampedAt (greenRowFrom from m) x y z ≡ clampedAt (plainGreenRow from m) x y z
     unfolding greenRowFrom
-    green-whole r Narrow = lowest-whole (m .weights) (m .green) (m .to) (m .depth) r x y z
+    green-whole r Narrow = lowest-whole (m .weights) (m .green) (m .to) (m .depth) r (h .green .some) x y z
     green-whole r Full = refl
     green-whole r LegacyFull = refl
 
@@ -56,9 +58,9 @@ module _ (m : Numbers) (h : SmallNumbers m) (x y z : ℕ) where
     unfolding rowsCode rgbRows
     rgb-exact r j =
         rgb-by (m .weights) n (m .from) (m .to) j x y z
-        (in-floats _ (red-row-fits m h) ∙ red-row (m .weights) n (m .from) (h .weights) steps out x y z)
-        (in-floats _ (green-row-fits m h) ∙ green-whole r (m .from) ∙ green-row (m .weights) n (m .from) (h .weights) steps out x y z)
-        (in-floats _ (blue-row-fits m h) ∙ blue-row (m .weights) n (m .from) (h .weights) steps out x y z)
+        (in-floats _ (red-row-fits m h) ∙ red-row (m .weights) n (m .from) (h .weights) steps out (fine (m .to) Brightness n steps .zero) x y z)
+        (in-floats _ (green-row-fits m h) ∙ green-whole r (m .from) ∙ green-row (m .weights) n (m .from) (h .weights) steps out (fine (m .to) Brightness n steps .zero) x y z)
+        (in-floats _ (blue-row-fits m h) ∙ blue-row (m .weights) n (m .from) (h .weights) steps out (fine (m .to) Brightness n steps .zero) x y z)
 
 -- by the paper's numbers, whose depth has n bits
 pub to-ycbcr-exact : ToYcbcrExact

@@ -1,3 +1,4 @@
+mod Rows
 mod Quotients
 mod Lowest
 mod Equations

@@ -1,8 +1,8 @@
 -- G' out of narrow range, with the common factors taken out, is the same fraction as the equation's. Assumes nothing.
 use mathlib.Core.Path.{_≡_, refl, sym, ap, ap₂, _∙_}
 use mathlib.Core.Bool.{Bool, true, _&&_}
-use Prim.Native.Nat.{ℕ, suc, _+_, _-_, _*_, _/_, _<_}
-use native.Mathlib.Nat.{mul-assoc, mul-comm, mul-left-comm, mul-add, add-mul, mul-pos, mul-div-mul-right}
+use Prim.Native.Nat.{ℕ, zero, suc, _+_, _-_, _*_, _/_, _<_}
+use native.Mathlib.Nat.{mul-assoc, mul-comm, mul-left-comm, mul-add, add-mul, zero-mul, mul-pos, mul-div-mul-right, eq-of-mul-eq-mul-right}
 use native.Mathlib.Omega.{arith}
 use borrow.Author.Tests.{eqb-true, leb-true}
 use lib.Dec.{eqb, leb}
@@ -16,6 +16,9 @@ use Rattle.layout.specs.declared.depth.Depth.the-variants.{Eight, Ten, Twelve}
 use Rattle.layout.specs.declared.kind.Kind.the-variants.{Brightness}
 use Rattle.layout.specs.Layout.{primariesKnown, bitsOf, stepOf}
 use Rattle.layout.proofs.Depths.{depth-steps}
+use Rattle.fractions.specs.Fraction.{bounded}
+use Rattle.fractions.proofs.Cuts.{outside, outside-same}
+use Rattle.floats.specs.declared.Ends.{Ends}
 use Rattle.scales.specs.declared.scale.Scale.{Scale}
 use Rattle.scales.specs.Scale.{scaleOf}
 use Rattle.color_equations.specs.declared.weights.Weights.{Weights}
@@ -25,8 +28,9 @@ use Rattle.color_rows.specs.declared.green.GreenTerms.{GreenTerms}
 use Rattle.color_rows.specs.declared.green.Ratio.{Ratio}
 use Rattle.color_rows.specs.declared.linear.Row.{Row}
 use Rattle.color_rows.specs.inner.Green.{greenTerms, ratioOf, narrowGreenValue}
-use Rattle.color_rows.specs.inner.Rows.{plusAt, minusAt, wholeAt, codedOf, codeRow, spreadOf, greenValue}
+use Rattle.color_rows.specs.inner.Rows.{codedOf, codeRow, spreadOf, greenValue}
 use Rattle.color_rows.proofs.Sizes.{ratio-small}
+use Rattle.color_rows_laws.proofs.Rows.{plusAt, minusAt, clampedBy, clampedAt}
 
 -- ---- rows of one fraction
 
@@ -41,8 +45,7 @@ record Alike (a b : Row) (k l : ℕ) : Type 0 where
   minus2 : a .sum .minus2 * k ≡ b .sum .minus2 * l
   minus : a .sum .minus * k ≡ b .sum .minus * l
   over : a .over * k ≡ b .over * l
-  low : a .low ≡ b .low
-  high : a .high ≡ b .high
+  ends : a .ends ≡ b .ends
 
 linear-times : (p q r s x y z k : ℕ) → (p * x + q * y + r * z + s) * k ≡ p * k * x + q * k * y + r * k * z + s * k
 linear-times p q r s x y z k = simp (add-mul, mul-assoc, mul-comm)
@@ -50,17 +53,48 @@ linear-times p q r s x y z k = simp (add-mul, mul-assoc, mul-comm)
 sums-alike : (p q r s p' q' r' s' x y z k l : ℕ) → p * k ≡ p' * l → q * k ≡ q' * l → r * k ≡ r' * l → s * k ≡ s' * l → (p * x + q * y + r * z + s) * k ≡ (p' * x + q' * y + r' * z + s') * l
 sums-alike p q r s p' q' r' s' x y z k l a b c d = linear-times p q r s x y z k ∙ rw (a, b, c, d) refl ∙ sym (linear-times p' q' r' s' x y z l)
 
-alike-whole : (a b : Row) (k l : ℕ) → 0 < k → 0 < l → Alike a b k l → (x y z : ℕ) → wholeAt a x y z ≡ wholeAt b x y z
-alike-whole a b k l K L e x y z =
+-- a fraction by a common multiple: X k = Y l over d k = c l
+crossed : (X Y d c k l : ℕ) → 0 < k → 0 < l → X * k ≡ Y * l → d * k ≡ c * l → X * c ≡ Y * d
+crossed X Y d c k l K L e o = eq-of-mul-eq-mul-right (k * l) (mul-pos K L) (X * c) (Y * d) (sort X c k l ∙ ap₂ (λ (u v : ℕ). u * v) e (sym o) ∙ back Y l d k)
+  where
+    sort : (X c k l : ℕ) → X * c * (k * l) ≡ X * k * (c * l)
+    sort X c k l = simp (mul-assoc, mul-left-comm)
+
+    back : (Y l d k : ℕ) → Y * l * (d * k) ≡ Y * d * (k * l)
+    back Y l d k = simp (mul-assoc, mul-comm, mul-left-comm)
+
+-- what has a product above 0
+factor-some : (d k n : ℕ) → d * k ≡ n → 0 < n → 0 < d
+factor-some zero k n e h = absurd (omega (arith, zero-mul k))
+factor-some (suc d) k n e h = omega arith
+
+-- two differences over divisors, one value: rounded down they are one number, and both or neither lie outside the ends
+alike-clamped : (e : Ends) (P M Q N d c k l : ℕ) → 0 < k → 0 < l → 0 < c → P * k ≡ Q * l → M * k ≡ N * l → d * k ≡ c * l → clampedBy e d P M ≡ clampedBy e c Q N
+alike-clamped e P M Q N d c k l K L C p m o = λ i. record { code = bounded (e .low) (e .high) (quotients i); cut = outsides i }
+  where
+    differences : (A B : ℕ) → A * k ≡ B * l → (A - M) * k ≡ (B - N) * l
+    differences A B h = sub-mul A M k ∙ ap₂ (λ (u v : ℕ). u - v) h m ∙ sym (sub-mul B N l)
+
+    quotients : (P - M) / d ≡ (Q - N) / c
+    quotients = sym (mul-div-mul-right (P - M) d K) ∙ ap₂ (λ (u v : ℕ). u / v) (differences P Q p) o ∙ mul-div-mul-right (Q - N) c L
+
+    -- 4096 above
+    above : (P + 4096 * d) * k ≡ (Q + 4096 * c) * l
+    above = add-mul P (4096 * d) k ∙ ap₂ (λ (u v : ℕ). u + v) p (mul-assoc 4096 d k ∙ ap (λ (u : ℕ). 4096 * u) o ∙ sym (mul-assoc 4096 c l)) ∙ sym (add-mul Q (4096 * c) l)
+
+    outsides : outside (e .strict) (e .low) (e .high) (P + 4096 * d - M) d ≡ outside (e .strict) (e .low) (e .high) (Q + 4096 * c - N) c
+    outsides = outside-same (e .strict) (e .low) (e .high) (P + 4096 * d - M) d (Q + 4096 * c - N) c (factor-some d k (c * l) o (mul-pos C L)) C
+        (crossed (P + 4096 * d - M) (Q + 4096 * c - N) d c k l K L (differences (P + 4096 * d) (Q + 4096 * c) above) o)
+
+alike-rows : (a b : Row) (k l : ℕ) → 0 < k → 0 < l → 0 < b .over → Alike a b k l → (x y z : ℕ) → clampedAt a x y z ≡ clampedAt b x y z
+alike-rows a b k l K L B e x y z =
     let P = plusAt (a .sum) x y z in
     let M = minusAt (a .sum) x y z in
     let Q = plusAt (b .sum) x y z in
     let N = minusAt (b .sum) x y z in
     let p : P * k ≡ Q * l = sums-alike (a .sum .plus0) (a .sum .plus1) (a .sum .plus2) (a .sum .plus) (b .sum .plus0) (b .sum .plus1) (b .sum .plus2) (b .sum .plus) x y z k l (e .plus0) (e .plus1) (e .plus2) (e .plus) in
     let m : M * k ≡ N * l = sums-alike (a .sum .minus0) (a .sum .minus1) (a .sum .minus2) (a .sum .minus) (b .sum .minus0) (b .sum .minus1) (b .sum .minus2) (b .sum .minus) x y z k l (e .minus0) (e .minus1) (e .minus2) (e .minus) in
-    let d : (P - M) * k ≡ (Q - N) * l = sub-mul P M k ∙ ap₂ (λ (u v : ℕ). u - v) p m ∙ sym (sub-mul Q N l) in
-    let q : (P - M) / a .over ≡ (Q - N) / b .over = sym (mul-div-mul-right (P - M) (a .over) K) ∙ ap₂ (λ (u v : ℕ). u / v) d (e .over) ∙ mul-div-mul-right (Q - N) (b .over) L in
-    rw (q, e .low, e .high) refl
+    ap (λ (h : Ends). clampedBy h (a .over) P M) (e .ends) ∙ alike-clamped (b .ends) P M Q N (a .over) (b .over) k l K L B p m (e .over)
 
 -- ---- the table: by a factor, its terms are those of the equation
 pub record Right (w : Weights) (g : GreenTerms) : Type 0 where
@@ -204,9 +238,10 @@ module _ (w : Weights) (g : GreenTerms) (to : Range) (d : Depth) (h : Right w g)
         minus2 = by (2 * w .red * (10000 - w .red) * 219) (g .red) (h .red);
         minus = by (10000 * greenOf w * 224 * (16 * s)) (g .luma * (16 * s)) (black (16 * s));
         over = times 2;
-        low = refl;
-        high = refl;
+        ends = refl;
       }
 
-  pub lowest-whole : (y cb cr : ℕ) → wholeAt lowest-row y cb cr ≡ wholeAt whole-row y cb cr
-  lowest-whole y cb cr = sym (alike-whole whole-row lowest-row k l (ratio-small to d .some) (mul-pos {m = 21 * s} (omega (arith, depth-steps d)) (h .some)) both y cb cr)
+  pub lowest-whole : 0 < g .half → (y cb cr : ℕ) → clampedAt lowest-row y cb cr ≡ clampedAt whole-row y cb cr
+  unfolding codedOf narrowGreenValue
+  lowest-whole some y cb cr =
+      sym (alike-rows whole-row lowest-row k l (ratio-small to d .some) (mul-pos {m = 21 * s} (omega (arith, depth-steps d)) (h .some)) (omega (arith, mul-pos some (ratio-small to d .some))) both y cb cr)

@@ -11,13 +11,19 @@ use lib.Ieee.Exact.{HasValue}
 use lib.Ieee.Back.{round-whole}
 use Rattle.fractions.specs.Fraction.{bounded}
 use Rattle.fractions.proofs.Integers.{minus-cases}
-use Rattle.floats.specs.inner.Floor.{wholeWithin}
-use Rattle.floats.proofs.Floors.{float, Rounded, rounded-floor, apart-small, beyond}
+use Rattle.fractions.proofs.Cuts.{outside}
+use Rattle.floats.specs.inner.Floor.{clampedWithin}
+use Rattle.floats.proofs.Floors.{Rounded, rounded-clamp, apart-small, beyond}
 use Rattle.floats.proofs.Wholes.{distance, Whole, whole-mul, whole-add, whole-div}
 use Rattle.color_line.specs.inner.Rows.{quotientOf, rowCode}
 use Rattle.color_rows.specs.declared.linear.Row.{Row}
-use Rattle.color_rows.specs.inner.Rows.{wholeAt, differenceOf, floatsOf}
+use Rattle.color_rows.specs.inner.Rows.{differenceOf, floatsOf}
 use Rattle.color_rows.specs.inner.Sizes.{Fits}
+use Rattle.color_rows_laws.proofs.Rows.{clampedAt}
+
+-- a whole number as an f64
+abbrev float : ℕ → Float
+float n = round binary64 false n 1
 
 is : (k : ℕ) → k ≤ 2 ^ 53 → HasValue (float k) false k 1
 is k h = round-whole binary64 false k h
@@ -128,14 +134,20 @@ module _ (r : Row) (top x y z : ℕ) (f : Fits r top) (least : 1 ≤ top) (most 
   unfolding floatsOf ofInt
   by-floats = refl
 
-  whole : wholeWithin (r .low) (r .high) quotient ≡ wholeAt r x y z
+  whole : clampedWithin (r .ends) quotient ≡ clampedAt r x y z
   whole =
-      rounded-floor quotient (ups + more - (downs + less)) (r .over) (r .low) (r .high) (f .some) (apart-small (ups + more - (downs + less)) (r .over) (f .over)) (f .ends) (f .high) rounded
-      ∙ ap (bounded (r .low) (r .high)) (ap (λ (a : ℕ). (a - (downs + less)) / r .over - 4096) (regroup ups (r .sum .plus) (4096 * r .over)) ∙ beyond (ups + r .sum .plus) (downs + less) (r .over) (f .some))
+      rounded-clamp (r .ends) (f .ends) (f .high) quotient (ups + more - (downs + less)) (r .over) (f .some) (apart-small (ups + more - (downs + less)) (r .over) (f .over)) rounded
+      ∙ (λ i. record { code = bounded (r .ends .low) (r .ends .high) (code i); cut = outside (r .ends .strict) (r .ends .low) (r .ends .high) (above i) (r .over) })
     where
       regroup : (a b c : ℕ) → a + (b + c) ≡ a + b + c
       regroup a b c = omega arith
 
-  pub row-is : rowCode (floatsOf r) x y z ≡ wholeAt r x y z
+      above : ups + more - (downs + less) ≡ ups + r .sum .plus + 4096 * r .over - (downs + less)
+      above = ap (λ (a : ℕ). a - (downs + less)) (regroup ups (r .sum .plus) (4096 * r .over))
+
+      code : (ups + more - (downs + less)) / r .over - 4096 ≡ (ups + r .sum .plus - (downs + less)) / r .over
+      code = ap (λ (a : ℕ). a / r .over - 4096) above ∙ beyond (ups + r .sum .plus) (downs + less) (r .over) (f .some)
+
+  pub row-is : rowCode (floatsOf r) x y z ≡ clampedAt r x y z
   unfolding rowCode floatsOf
-  row-is = ap (wholeWithin (r .low) (r .high)) by-floats ∙ whole
+  row-is = ap (clampedWithin (r .ends)) by-floats ∙ whole

@@ -7,15 +7,15 @@ use Rattle.color_equations.specs.Weights.{weightsOf}
 use Rattle.color_equations.specs.Conversion.{ycbcrOf, rgbOf}
 use Rattle.color_equations.specs.Line.{convertible}
 use Rattle.color_line.specs.inner.Rows.{rowsCode}
-use Rattle.color_rows.specs.inner.Known.{toYcbcr, toRgb}
+use Rattle.color_rows.specs.inner.Known.{ycbcrConversion, rgbConversion}
 
 -- at every point x, y, z of n bits, in every channel j
 abbrev pub ToYcbcrExact : Type 0
 ToYcbcrExact =
     (primaries n from to : ℕ) → convertible primaries n from to ≡ true → (x y z j : ℕ) → x ≤ topOf n → y ≤ topOf n → z ≤ topOf n
-    → rowsCode (toYcbcr primaries n from to .rows) x y z j ≡ ycbcrOf (weightsOf primaries) n (rangeOf from) (rangeOf to) x y z j
+    → rowsCode (ycbcrConversion primaries n from to .rows) x y z j ≡ ycbcrOf (weightsOf primaries) n (rangeOf from) (rangeOf to) x y z j
 
 abbrev pub ToRgbExact : Type 0
 ToRgbExact =
     (primaries n from to : ℕ) → convertible primaries n from to ≡ true → (x y z j : ℕ) → x ≤ topOf n → y ≤ topOf n → z ≤ topOf n
-    → rowsCode (toRgb primaries n from to .rows) x y z j ≡ rgbOf (weightsOf primaries) n (rangeOf from) (rangeOf to) x y z j
+    → rowsCode (rgbConversion primaries n from to .rows) x y z j ≡ rgbOf (weightsOf primaries) n (rangeOf from) (rangeOf to) x y z j

@@ -1,39 +1,43 @@
 -- The claims of specs/Claims.antt. Assumes nothing.
-use mathlib.Core.Path.{_≡_, refl, sym, ap, _∙_, subst}
+use mathlib.Core.Path.{_≡_, refl, sym, ap, ap₂, _∙_, subst}
 use mathlib.Core.Bool.{Bool, true, false, not}
 use mathlib.Core.List.{List, [], map}
-use Prim.Native.Nat.{ℕ, _*_, _/_, _%_}
+use Prim.Native.Nat.{ℕ, _*_, _/_, _%_, _<_}
 use native.Mathlib.Nat.{mul-zero}
 use native.Mathlib.Omega.{arith}
 use borrow.Author.Tests.{eq-eqb}
 use lib.Dec.{lit<}
 use lib.Ieee.{Float, nan, isNan}
 use lib.ListN.{length, getD}
-use Rattle.lists.specs.Lists.{every, newOrKept}
+use Rattle.lists.specs.Lists.{every, count, newOrKept}
+use Rattle.lists.proofs.Counts.{count-same}
 use Rattle.lists.proofs.Every.{every-at}
 use Rattle.lists.proofs.Lists.{length-tabulate, getD-tabulate}
 use Rattle.lists.proofs.Tests.{pass}
 use Rattle.layout.specs.declared.Layout.{Layout}
-use Rattle.layout.specs.Layout.{validLayout}
-use Rattle.quantization.specs.declared.Quantized.the-variants.{Code}
+use Rattle.layout.specs.Layout.{rangeOf, validLayout}
+use Rattle.quantization.specs.declared.Quantized.the-variants.{Code, Refused as NoCode}
 use Rattle.quantization.specs.Code.{codeOf, codeOr}
 use Rattle.scales.specs.Channel.{scaleAt}
 use Rattle.quantization.specs.Answer.{quantized}
 use Rattle.scales.proofs.Known.{channel-known}
+use Rattle.quantization_laws.specs.Printed.{excluded}
 use Rattle.quantization_laws.proofs.Claims.{quantizes-within-ends}
 use Rattle.line.specs.declared.LineAnswer.{LineAnswer}
 use Rattle.line.specs.declared.LineAnswer.the-variants.{Points}
+use Rattle.line.specs.declared.ClampedAnswer.{ClampedAnswer}
+use Rattle.line.specs.declared.ClampedAnswer.the-variants.{Points as PointsAndCuts}
 use Rattle.line.specs.Line.{codeAt, codesOf, packedOf, CodeLine}
-use Rattle.line.specs.Answer.{fitting, accepted}
-use Rattle.line.proofs.Answers.{fits, unpack-outside, unpack-unfit, unpack-points}
-use Rattle.encoding.specs.Encode.{valueCode, quantizedOf, encodeAnswer, encodeOutput}
+use Rattle.line.specs.Answer.{fitting, accepted, clampedAccepted}
+use Rattle.line.proofs.Answers.{fit, fits, unpack-outside, unpack-unfit, unpack-points}
+use Rattle.encoding.specs.Encode.{valueCode, quantizedOf, valueCut, cutsOf, allNumbers, encodeAnswer, encodeOutput}
 use Rattle.encoding.proofs.Answers.{encode-points}
 use Rattle.decoding.specs.Decode.{valuesOf, decodeAnswer, decodeOutput}
 use Rattle.decoding.proofs.One.{firstOf, shown, as-line}
-use Rattle.scanline_laws.proofs.Accepted.{fit, unpacking-accepted}
+use Rattle.scanline_laws.proofs.Accepted.{unpacking-accepted}
 use Rattle.scanline_laws.proofs.Claims.{packs-what-was-unpacked, unpacks-what-was-packed, unpacks-to-codes, packs-to-bytes, packs-unused-bits-as-zero, encodes-to-codes, counts-empty-lines as empty-lines}
-use Rattle.decoding_laws.specs.Claims.{clampedTo, DecodesLines, LeavesValues, RefusesOtherOutputs, DecodesEachCode, QuantizesWhatWasDecoded, EncodesEachValue, EncodesWithinEnds, EncodesWhatWasDecoded, AnyLineComesBack, AnyLineReturns, CountsEmptyLines, DecodesPointAsLine, RefusesPointAsLine}
-use Rattle.decoding_laws.proofs.Values.{number-coded, length-values, codes-back, none-clamped, all-numbers, as-dequantized, values-of, three}
+use Rattle.decoding_laws.specs.Claims.{clampedTo, quantizedAt, saysCut, DecodesLines, LeavesValues, RefusesOtherOutputs, DecodesEachCode, QuantizesWhatWasDecoded, EncodesEachValue, CountsEachCut, EncodesWithinEnds, EncodesWhatWasDecoded, AnyLineComesBack, AnyLineReturns, CountsEmptyLines, DecodesPointAsLine, RefusesPointAsLine}
+use Rattle.decoding_laws.proofs.Values.{number-coded, length-values, codes-back, cuts-back, none-clamped, all-numbers, as-dequantized, values-of, three}
 
 pub decodes-lines : DecodesLines
 decodes-lines l n s p h = unpacking-accepted l n s (3 * n) p (omega arith) h
@@ -53,8 +57,15 @@ refuses-other-outputs l n s p floats e = unpack-unfit l (length s) floats (p .va
 pub decodes-each-code : DecodesEachCode
 decodes-each-code l n s p = let e = values-of l n s p in (e, λ k h. as-dequantized l s (p .valid) k (omega arith))
 
+-- a value of a line is cut where quantizing says so
+answered : (l : Layout) (vs : List Float) → validLayout l ≡ true → allNumbers vs ≡ true → (k : ℕ) → k < length vs → valueCut l vs k ≡ saysCut (quantizedAt l vs k)
+unfolding quantized valueCut
+answered l vs ok numbers k h =
+    let v = getD vs k nan in
+    sym (ap saysCut (pass (NoCode 9) (ap not (channel-known l (k % 3) ok (omega arith))) (number-coded (scaleAt l (k % 3)) v (every-at (λ x. not (isNan x)) nan vs k numbers h))))
+
 pub encodes-each-value : EncodesEachValue
-unfolding quantized quantizedOf valueCode codesOf
+unfolding quantized quantizedOf valueCode valueCut codesOf
 encodes-each-value l n vs ok numbers e =
     let cs = quantizedOf l vs in
     let s = packedOf l cs in
@@ -68,12 +79,19 @@ encodes-each-value l n vs ok numbers e =
           let back = ap (λ (xs : List ℕ). getD xs k 0) (unpacks-what-was-packed l n cs line) in
           pass _ (ap not (channel-known l (k % 3) ok (omega arith)))
           (number-coded (scaleAt l (k % 3)) v (every-at (λ x. not (isNan x)) nan vs k numbers (omega arith))
-          ∙ ap Code (sym own ∙ sym back ∙ at)),
+          ∙ (λ i. Code (record { code = (sym own ∙ sym back ∙ at) i; cut = valueCut l vs k }))),
     )
+
+pub counts-each-cut : CountsEachCut
+unfolding cutsOf
+counts-each-cut l n vs ok numbers e h =
+    let f = fit (length vs) 3 (l .bytes * n) (l .bytes) n (lit< tt) e refl h in
+    encode-points l vs (l .bytes * n) ok (f .0) numbers
+    ∙ ap₂ PointsAndCuts (f .1) (count-same (length vs) (valueCut l vs) (λ k. saysCut (quantizedAt l vs k)) (λ k p. answered l vs ok numbers k p) ∙ ap (λ (m : ℕ). count m (λ k. saysCut (quantizedAt l vs k))) e)
 
 pub encodes-within-ends : EncodesWithinEnds
 encodes-within-ends l n vs ok numbers e k h =
-    quantizes-within-ends (l .model) (l .range) (l .depth) (k % 3) (codeAt l (packedOf l (quantizedOf l vs)) k) (getD vs k nan) (encodes-each-value l n vs ok numbers e .1 k h)
+    quantizes-within-ends (l .model) (l .range) (l .depth) (k % 3) (getD vs k nan) _ (encodes-each-value l n vs ok numbers e .1 k h)
 
 pub quantizes-what-was-decoded : QuantizesWhatWasDecoded
 quantizes-what-was-decoded l n s p = codes-back l s (p .valid)
@@ -89,11 +107,14 @@ any-line-comes-back l n s p h floats bytes ef eb =
     let vs = valuesOf l s in
     let left : decodeOutput l s floats ≡ vs = leaves-values l n s p h floats ef in
     let f = fit (length vs) 3 (length bytes) (l .bytes) n (lit< tt) (values-of l n s p) (eb ∙ p .points) h in
-    let taken : encodeAnswer l vs (length bytes) ≡ Points n = encode-points l vs (length bytes) (p .valid) (f .0) (all-numbers l s (p .valid)) ∙ ap Points (f .1) in (
+    let cuts = count (3 * n) (λ k. excluded (rangeOf (l .range)) (l .depth) (codeAt l s k)) in
+    let taken : encodeAnswer l vs (length bytes) ≡ PointsAndCuts n cuts =
+    encode-points l vs (length bytes) (p .valid) (f .0) (all-numbers l s (p .valid))
+    ∙ ap₂ PointsAndCuts (f .1) (cuts-back l s (p .valid) ∙ ap (λ (m : ℕ). count m (λ k. excluded (rangeOf (l .range)) (l .depth) (codeAt l s k))) (sym (length-values l s) ∙ values-of l n s p)) in (
       unpacking-accepted l n s (length floats) p ef h,
       ap (λ (xs : List Float). encodeAnswer l xs (length bytes)) left ∙ taken,
       ap (λ (xs : List Float). encodeOutput l xs bytes) left
-          ∙ ap (λ (a : LineAnswer). newOrKept (accepted a) (packedOf l (quantizedOf l vs)) bytes) taken
+          ∙ ap (λ (a : ClampedAnswer). newOrKept (clampedAccepted a) (packedOf l (quantizedOf l vs)) bytes) taken
           ∙ ap (packedOf l) (codes-back l s (p .valid)),
     )
 
@@ -104,10 +125,10 @@ any-line-returns l n s p h x floats bytes ef eb =
     ∙ packs-what-was-unpacked l n s p
 
 pub counts-empty-lines : CountsEmptyLines
-unfolding every
+unfolding every cutsOf count
 counts-empty-lines l ok =
     let f = fit 0 3 0 (l .bytes) 0 (lit< tt) refl (sym (mul-zero (l .bytes))) (omega arith) in
-    (empty-lines l ok .0, encode-points l [] 0 ok (f .0) refl ∙ ap Points (f .1))
+    (empty-lines l ok .0, encode-points l [] 0 ok (f .0) refl ∙ ap (λ (m : ℕ). PointsAndCuts m 0) (f .1))
 
 -- three floats are those of one point
 one-point : (l : Layout) (bytes n : ℕ) → decodeAnswer l bytes 3 ≡ Points n → (n ≡ 1) × (bytes / l .bytes ≡ 1)

@@ -1,6 +1,6 @@
 -- The values of a packed line, one by one. Assumes nothing.
 use mathlib.Core.Path.{_≡_, refl, sym, ap, ap₂, _∙_}
-use mathlib.Core.Bool.{true, false, not}
+use mathlib.Core.Bool.{Bool, true, false, not}
 use mathlib.Core.List.{List, [], _∷_, map}
 use Prim.Native.Nat.{ℕ, zero, suc, _*_, _/_, _%_, _^_, _≤_, _<_}
 use native.Mathlib.Nat.{mod-lt, mul-comm, mul-div-cancel}
@@ -9,33 +9,37 @@ use borrow.Author.Tests.{le-ltb, not-true}
 use lib.Ieee.{Float, nan, inf, fin, isNan}
 use lib.ListN.{length, getD}
 use lib.Pow.{pow-pos}
-use Rattle.lists.specs.Lists.{tabulate}
+use Rattle.lists.specs.Lists.{tabulate, count}
 use Rattle.lists.proofs.Every.{every-of, every-at}
 use Rattle.lists.proofs.Lists.{length-tabulate, getD-tabulate, tabulate-same}
+use Rattle.lists.proofs.Counts.{count-same}
 use Rattle.lists.proofs.Tests.{pass}
-use Rattle.fractions.specs.Fraction.{bounded}
+use lib.IntN.{pos}
+use Rattle.fractions.specs.declared.Clamped.{Clamped}
+use Rattle.fractions.specs.Fraction.{isCut, clamped}
 use Rattle.layout.specs.declared.Layout.{Layout}
-use Rattle.layout.specs.Layout.{topOf, rangeOf, kindOf, offsetOf, validLayout}
+use Rattle.layout.specs.declared.range.Range.{Range}
+use Rattle.layout.specs.Layout.{depthKnown, topOf, rangeOf, kindOf, offsetOf, validLayout}
 use Rattle.layout.proofs.Facts.{valid-says}
 use Rattle.scales.specs.declared.scale.Scale.{Scale}
 use Rattle.quantization.specs.declared.code.Coded.the-variants.{Code}
 use Rattle.quantization.specs.declared.Quantized.the-variants.{Code as Answered}
 use Rattle.scales.specs.Value.{valueOf}
-use Rattle.quantization.specs.Code.{codeOf, codeOr}
+use Rattle.quantization.specs.Code.{codeOf, codeOr, isCutCode}
 use Rattle.scales.specs.Channel.{scaleAt}
 use Rattle.quantization.specs.Answer.{named, dequantized, orRefused}
 use Rattle.scales.proofs.Known.{channel-known}
-use Rattle.quantization_laws.specs.Printed.{excluded}
-use Rattle.quantization_laws.proofs.Printed.{ends-printed, within-ends}
+use Rattle.quantization_laws.specs.Printed.{printedLow, printedHigh, excluded}
+use Rattle.quantization_laws.proofs.Printed.{ends-printed, within-ends, included-code, excluded-code}
 use Rattle.quantization_laws.proofs.Return.{code-returns}
 use Rattle.line.specs.Point.{pointOf}
 use Rattle.line.specs.Line.{codeAt, codesOf, PackedLine}
-use Rattle.encoding.specs.Encode.{valueCode, quantizedOf, allNumbers}
+use Rattle.encoding.specs.Encode.{valueCode, quantizedOf, valueCut, cutsOf, allNumbers}
 use Rattle.decoding.specs.Decode.{valueAt, valuesOf}
 use Rattle.decoding_laws.specs.Claims.{clampedTo, noneExcluded}
 
 -- what has a code is a number
-has-code : (sc : Scale) (v : Float) (c : ℕ) → codeOf sc v ≡ Code c → not (isNan v) ≡ true
+has-code : (sc : Scale) (v : Float) (c : Clamped) → codeOf sc v ≡ Code c → not (isNan v) ≡ true
 unfolding codeOf isNan
 has-code sc nan c e = let z : _≡_ {A = ℕ} 0 1 = cc in absurd (omega arith)
 has-code sc (inf s) c e = refl
@@ -47,13 +51,21 @@ unfolding tabulate
 map-tabulate f zero g = refl
 map-tabulate f (suc n) g = ap (λ (xs : List ℕ). f (g 0) ∷ xs) (map-tabulate f n (λ k. g (suc k)))
 
--- a number has a code, which quantizing answers
-pub number-coded : (sc : Scale) (v : Float) → not (isNan v) ≡ true → orRefused (codeOf sc v) ≡ Answered (codeOr 0 (codeOf sc v))
+-- a number has a code, which quantizing answers, with its cut
+pub number-coded : (sc : Scale) (v : Float) → not (isNan v) ≡ true → orRefused (codeOf sc v) ≡ Answered (record { code = codeOr 0 (codeOf sc v); cut = isCutCode (codeOf sc v) })
 unfolding codeOf isNan
 number-coded sc nan e = let z : _≡_ {A = ℕ} 0 1 = cc in absurd (omega arith)
 number-coded sc (inf false) e = refl
 number-coded sc (inf true) e = refl
 number-coded sc (fin s m x) e = refl
+
+-- a code is cut exactly if it is left out of the return
+cut-excluded : (n : ℕ) → depthKnown n ≡ true → (r : Range) (c : ℕ) → c ≤ topOf n → isCut (printedLow r n) (printedHigh r n) (pos c) ≡ excluded r n c
+cut-excluded n d r c h = go (excluded r n c) refl
+  where
+    go : (t : Bool) → excluded r n c ≡ t → isCut (printedLow r n) (printedHigh r n) (pos c) ≡ t
+    go true e = ap (λ (x : Clamped). x .cut) (excluded-code n d r c e)
+    go false e = ap (λ (x : Clamped). x .cut) (included-code n d r c h e)
 
 module _ (l : Layout) (s : List ℕ) where
   -- a code of a packed line is one of the depth
@@ -71,14 +83,14 @@ module _ (l : Layout) (s : List ℕ) where
 
   module _ (ok : validLayout l ≡ true) where
     -- the code of value k is code k, clamped
-    code-back : (k : ℕ) → k < length (valuesOf l s) → codeOf (scaleAt l (k % 3)) (getD (valuesOf l s) k nan) ≡ Code (clampedTo l (codeAt l s k))
+    code-back : (k : ℕ) → k < length (valuesOf l s) → codeOf (scaleAt l (k % 3)) (getD (valuesOf l s) k nan) ≡ Code (clamped (printedLow (rangeOf (l .range)) (l .depth)) (printedHigh (rangeOf (l .range)) (l .depth)) (pos (codeAt l s k)))
     code-back k h =
         let r = valid-says l ok in
         let range = rangeOf (l .range) in
         let f = ends-printed (l .depth) (r .depth) range in
         ap (codeOf (scaleAt l (k % 3))) (value-at k h)
         ∙ code-returns range (kindOf (l .model) (k % 3)) (l .depth) (codeAt l s k) (r .depth-least) (r .depth-most) (code-le k)
-        ∙ ap₂ (λ (low high : ℕ). Code (bounded low high (codeAt l s k))) (f .0) (f .1)
+        ∙ ap₂ (λ (low high : ℕ). Code (clamped low high (pos (codeAt l s k)))) (f .0) (f .1)
 
     pub codes-back : quantizedOf l (valuesOf l s) ≡ map (clampedTo l) (codesOf l s)
     unfolding quantizedOf valueCode codesOf
@@ -88,7 +100,15 @@ module _ (l : Layout) (s : List ℕ) where
         ∙ sym (map-tabulate (clampedTo l) (3 * (length s / l .bytes)) (codeAt l s))
 
     pub all-numbers : allNumbers (valuesOf l s) ≡ true
-    all-numbers = every-of (λ v. not (isNan v)) nan (valuesOf l s) (λ k h. has-code (scaleAt l (k % 3)) (getD (valuesOf l s) k nan) (clampedTo l (codeAt l s k)) (code-back k h))
+    all-numbers = every-of (λ v. not (isNan v)) nan (valuesOf l s) (λ k h. has-code (scaleAt l (k % 3)) (getD (valuesOf l s) k nan) _ (code-back k h))
+
+    -- and it is cut exactly if it is left out of the return
+    pub cuts-back : cutsOf l (valuesOf l s) ≡ count (3 * (length s / l .bytes)) (λ k. excluded (rangeOf (l .range)) (l .depth) (codeAt l s k))
+    unfolding cutsOf valueCut
+    cuts-back =
+        count-same (length (valuesOf l s)) (valueCut l (valuesOf l s)) (λ k. excluded (rangeOf (l .range)) (l .depth) (codeAt l s k))
+        (λ k h. ap isCutCode (code-back k h) ∙ cut-excluded (l .depth) (valid-says l ok .depth) (rangeOf (l .range)) (codeAt l s k) (code-le k))
+        ∙ ap (λ (m : ℕ). count m (λ k. excluded (rangeOf (l .range)) (l .depth) (codeAt l s k))) length-values
 
     -- codes that are not left out are as they were
     pub none-clamped : noneExcluded l (codesOf l s) ≡ true → map (clampedTo l) (codesOf l s) ≡ codesOf l s

@@ -6,20 +6,22 @@ use mathlib.Core.List.{List, [], map}
 use lib.Dec.{eqb}
 use lib.Ieee.{Float, nan}
 use lib.ListN.{length, getD}
-use Rattle.lists.specs.Lists.{every}
+use Rattle.lists.specs.Lists.{every, count}
 use Rattle.fractions.specs.Fraction.{bounded}
 use Rattle.layout.specs.declared.Layout.{Layout}
 use Rattle.layout.specs.Layout.{rangeOf, kindOf, validLayout}
 use Rattle.refusal.specs.Refusal.{wrongLineOrOutput}
-use Rattle.quantization.specs.declared.Quantized.the-variants.{Code}
+use Rattle.quantization.specs.declared.Quantized.{Quantized}
+use Rattle.quantization.specs.declared.Quantized.the-variants.{Code, Refused}
 use Rattle.quantization.specs.Answer.{named, dequantized, quantized}
 use Rattle.quantization_laws.specs.Printed.{printedLow, printedHigh, WithinEnds, excluded}
 use Rattle.line.specs.declared.LineAnswer.the-variants.{Points, Refused as LineRefused}
+use Rattle.line.specs.declared.ClampedAnswer.the-variants.{Points as PointsAndCuts}
 use Rattle.line.specs.declared.Point.{Point}
 use Rattle.line.specs.Line.{codeAt, codesOf, packedOf, pointValues, PackedLine}
 use Rattle.line.specs.Answer.{mostPoints}
-use Rattle.encoding.specs.Encode.{quantizedOf, allNumbers, encodeAnswer, encodeOutput}
-use Rattle.decoding.specs.declared.DecodedPoint.the-variants.{Decoded, Refused}
+use Rattle.encoding.specs.Encode.{quantizedOf, valueCut, allNumbers, encodeAnswer, encodeOutput}
+use Rattle.decoding.specs.declared.DecodedPoint.the-variants.{Decoded, Refused as NoPoint}
 use Rattle.decoding.specs.Decode.{valuesOf, decodeAnswer, decodeOutput, decodePoint}
 use Rattle.scanline_laws.specs.Cleared.{cleared}
 
@@ -50,12 +52,27 @@ DecodesEachCode =
     → (length (valuesOf l s) ≡ 3 * n)
     × ((k : ℕ) → k < 3 * n → dequantized (l .model) (l .range) (l .depth) (k % 3) (codeAt l s k) ≡ named (kindOf (l .model) (k % 3)) (getD (valuesOf l s) k nan))
 
--- each code of an encoded line is what quantizing its value answers
+-- what quantizing value k of a line answers
+abbrev pub quantizedAt : Layout → List Float → ℕ → Quantized
+quantizedAt l vs k = quantized (l .model) (l .range) (l .depth) (k % 3) (getD vs k nan)
+
+-- whether an answer says that the value was cut
+abbrev pub saysCut : Quantized → Bool
+saysCut (Code c) = c .cut
+saysCut (Refused k) = false
+
+-- each code of an encoded line is what quantizing its value answers, and a value is cut where that answer says so (A4)
 abbrev pub EncodesEachValue : Type 0
 EncodesEachValue =
     (l : Layout) (n : ℕ) (vs : List Float) → validLayout l ≡ true → allNumbers vs ≡ true → length vs ≡ 3 * n
     → let s = packedOf l (quantizedOf l vs) in
-    PackedLine l n s × ((k : ℕ) → k < 3 * n → quantized (l .model) (l .range) (l .depth) (k % 3) (getD vs k nan) ≡ Code (codeAt l s k))
+    PackedLine l n s × ((k : ℕ) → k < 3 * n → quantizedAt l vs k ≡ Code (record { code = codeAt l s k; cut = valueCut l vs k }))
+
+-- and the number of cuts that encoding answers beside the count of points is the number of places in the line where it says so (A4)
+abbrev pub CountsEachCut : Type 0
+CountsEachCut =
+    (l : Layout) (n : ℕ) (vs : List Float) → validLayout l ≡ true → allNumbers vs ≡ true → length vs ≡ 3 * n → n ≤ mostPoints
+    → encodeAnswer l vs (l .bytes * n) ≡ PointsAndCuts n (count (3 * n) (λ k. saysCut (quantizedAt l vs k)))
 
 -- so none of them lies outside the ends
 abbrev pub EncodesWithinEnds : Type 0
@@ -74,14 +91,14 @@ EncodesWhatWasDecoded =
     → let t = packedOf l (map (clampedTo l) (codesOf l s)) in
     (packedOf l (quantizedOf l (valuesOf l s)) ≡ t) × (cleared l t ≡ t)
 
--- any captured line of up to 4,096 points, decoded into three floats a point and then encoded into as many bytes, is accepted both times with its count of points, and its codes come back, each clamped to its channel's ends, whatever the two outputs held before
+-- any captured line of up to 4,096 points, decoded into three floats a point and then encoded into as many bytes, is accepted both times with its count of points, and its codes come back, each clamped to its channel's ends, whatever the two outputs held before; cut are exactly those that A1 and A2 leave out of the return
 abbrev pub AnyLineComesBack : Type 0
 AnyLineComesBack =
     (l : Layout) (n : ℕ) (s : List ℕ) → PackedLine l n s → n ≤ mostPoints
     → (floats : List Float) (bytes : List ℕ) → length floats ≡ 3 * n → length bytes ≡ length s
     → let decoded = decodeOutput l s floats in
     (decodeAnswer l (length s) (length floats) ≡ Points n)
-    × (encodeAnswer l decoded (length bytes) ≡ Points n)
+    × (encodeAnswer l decoded (length bytes) ≡ PointsAndCuts n (count (3 * n) (λ k. excluded (rangeOf (l .range)) (l .depth) (codeAt l s k))))
     × (encodeOutput l decoded bytes ≡ packedOf l (map (clampedTo l) (codesOf l s)))
 
 -- demand 2's last sentence, but for the codes that A1 and A2 leave out of it: a line with none of them returns, its unused bits cleared
@@ -91,9 +108,9 @@ AnyLineReturns =
     → (floats : List Float) (bytes : List ℕ) → length floats ≡ 3 * n → length bytes ≡ length s
     → encodeOutput l (decodeOutput l s floats) bytes ≡ cleared l s
 
--- an empty line counts 0
+-- an empty line counts 0, and no cut
 abbrev pub CountsEmptyLines : Type 0
-CountsEmptyLines = (l : Layout) → validLayout l ≡ true → (decodeAnswer l 0 0 ≡ Points 0) × (encodeAnswer l [] 0 ≡ Points 0)
+CountsEmptyLines = (l : Layout) → validLayout l ≡ true → (decodeAnswer l 0 0 ≡ Points 0) × (encodeAnswer l [] 0 ≡ PointsAndCuts 0 0)
 
 -- decoding one point is decoding a line into three floats: where the line is accepted, it is of one point, and the point's values are the line's
 abbrev pub DecodesPointAsLine : Type 0
@@ -103,4 +120,4 @@ DecodesPointAsLine =
 
 -- and where the line is refused, the point is refused by the same number
 abbrev pub RefusesPointAsLine : Type 0
-RefusesPointAsLine = (l : Layout) (s : List ℕ) (k : ℕ) → decodeAnswer l (length s) 3 ≡ LineRefused k → decodePoint l s ≡ Refused k
+RefusesPointAsLine = (l : Layout) (s : List ℕ) (k : ℕ) → decodeAnswer l (length s) 3 ≡ LineRefused k → decodePoint l s ≡ NoPoint k

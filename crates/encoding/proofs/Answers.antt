@@ -8,10 +8,10 @@ use lib.ListN.{length}
 use Rattle.lists.proofs.Tests.{pass, stop}
 use Rattle.layout.specs.declared.Layout.{Layout}
 use Rattle.layout.specs.Layout.{validLayout}
-use Rattle.line.specs.declared.LineAnswer.the-variants.{Points, Refused}
+use Rattle.line.specs.declared.ClampedAnswer.the-variants.{Points, Refused}
 use Rattle.line.specs.Answer.{fitting}
-use Rattle.line.proofs.Answers.{packed-points}
-use Rattle.encoding.specs.Encode.{allNumbers, encodeAnswer}
+use Rattle.line.proofs.Answers.{packed-count}
+use Rattle.encoding.specs.Encode.{cutsOf, allNumbers, encodeAnswer}
 
 module _ (l : Layout) (vs : List Float) (bytes : ℕ) where
   pub encode-outside : validLayout l ≡ false → encodeAnswer l vs bytes ≡ Refused 9
@@ -26,6 +26,6 @@ module _ (l : Layout) (vs : List Float) (bytes : ℕ) where
   unfolding encodeAnswer
   encode-not-number e f g = pass _ (ap not e) (pass _ (ap not f) (stop _ (ap not g)))
 
-  pub encode-points : validLayout l ≡ true → fitting (length vs) 3 bytes (l .bytes) ≡ true → allNumbers vs ≡ true → encodeAnswer l vs bytes ≡ Points (length vs / 3)
+  pub encode-points : validLayout l ≡ true → fitting (length vs) 3 bytes (l .bytes) ≡ true → allNumbers vs ≡ true → encodeAnswer l vs bytes ≡ Points (length vs / 3) (cutsOf l vs)
   unfolding encodeAnswer
-  encode-points e f g = pass _ (ap not e) (pass _ (ap not f) (pass _ (ap not g) (packed-points l (length vs) bytes e f)))
+  encode-points e f g = pass _ (ap not e) (pass _ (ap not f) (pass _ (ap not g) (ap (λ (n : ℕ). Points n (cutsOf l vs)) (packed-count l (length vs) bytes e f))))

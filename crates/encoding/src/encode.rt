@@ -1,4 +1,4 @@
-// A line of floats encoded: each value's code on its channel's scale, and the codes packed.
+// A line of floats encoded: each value's code on its channel's scale, the codes packed, and the values that were cut counted.
 ghost use mathlib.Core.Path.{_≡_};
 ghost use mathlib.Core.Bool.{true, not};
 ghost use Prim.Native.Nat.{_+_, _*_, _≤_};
@@ -6,14 +6,18 @@ ghost use lib.Dec.{T};
 ghost use lib.ListN.{length};
 ghost use lib.Ieee.{isNan};
 ghost use Rattle.layout.specs.Layout.{validLayout};
-ghost use Rattle.quantization.specs.Code.{codeOf, codeOr};
-ghost use Rattle.scales.specs.inner.Floats.{Fine};
+ghost use Rattle.quantization.specs.declared.code.Coded.the-variants.{Code};
+ghost use Rattle.quantization.specs.Code.{codeOf};
+ghost use Rattle.scales.specs.declared.scale.Scale.{Scale};
+ghost use Rattle.scales.specs.inner.Floats.{floatScale, Fine};
 ghost use Rattle.scales.specs.inner.Fitted.{Fitted};
 ghost use Rattle.line.specs.Line.{joined as joinedOf, packedOf};
-ghost use Rattle.lists.specs.Lists.{tabulate};
-ghost use Rattle.encoding.specs.Encode.{quantizedOf, allNumbers};
+ghost use Rattle.lists.specs.Lists.{tabulate, count};
+ghost use Rattle.encoding.specs.inner.Floats.{floatScales, InFloats};
+ghost use Rattle.encoding.specs.Encode.{quantizedOf, valueCut, cutsOf, allNumbers};
+use fractions::Clamped;
 use layout::Layout;
-use scales::Scale;
+use scales::FloatScale;
 use scales::Scales;
 
 // Whether every value is a number. There is no early exit: it costs more than it spares.
@@ -29,79 +33,108 @@ pub(crate) fn all_numbers(values: &[f32]) -> bool
     ok
 }
 
-// The code of a number.
-fn code_of_number(scale: Scale, value: f32) -> u16
-    requires { ⌜ Fine scale × T (not (isNan value)) ⌝ }
-    ensures { λ r. ⌜ r ≡ codeOr 0 (codeOf scale value) ⌝ }
+// The scales of the three channels in f64, worked out once for a line.
+pub struct FloatScales {
+    pub channel0: FloatScale,
+    pub channel1: FloatScale,
+    pub channel2: FloatScale,
+}
+
+fn in_floats(scales: Scales) -> FloatScales
+    ensures { λ r. ⌜ r ≡ floatScales scales ⌝ }
+{
+    let a = scales.channel0;
+    let b = scales.channel1;
+    let c = scales.channel2;
+    FloatScales {
+        channel0: a.floats(),
+        channel1: b.floats(),
+        channel2: c.floats(),
+    }
+}
+
+// The code of a number, and whether it was cut.
+fn code_of_number(scale: FloatScale, value: f32) -> Clamped
+    requires { ⌜ T (not (isNan value)) ⌝ }
+    ensures { λ r. ⌜ ((sc : Scale) → Fine sc → scale ≡ floatScale sc → Code r ≡ codeOf sc value) ⌝ }
 {
     scale.code(value as f64)
 }
 
-// The number of point i of a line of values.
-fn joined(layout: Layout, scales: Scales, values: &[f32], i: usize) -> u64
-    requires { ⌜ (validLayout layout ≡ true) × Fitted layout scales × (allNumbers (now values) ≡ true) × (3 * i + 3 ≤ length (now values)) ⌝ }
-    ensures { λ r. ⌜ r ≡ joinedOf layout (quantizedOf layout (now (values .entry))) i ⌝ }
+// A point's number, and how many of its values were cut.
+pub struct PointCodes {
+    pub number: u64,
+    pub cuts: u64,
+}
+
+// Point i of a line of values.
+fn joined(layout: Layout, scales: FloatScales, values: &[f32], i: usize) -> PointCodes
+    requires { ⌜ (validLayout layout ≡ true) × InFloats layout scales × (allNumbers (now values) ≡ true) × (3 * i + 3 ≤ length (now values)) ⌝ }
+    ensures number { λ r. ⌜ r .number ≡ joinedOf layout (quantizedOf layout (now (values .entry))) i ⌝ }
+    ensures cuts { λ r. ⌜ count (3 * i) (valueCut layout (now (values .entry))) + r .cuts ≡ count (3 * (i + 1)) (valueCut layout (now (values .entry))) ⌝ }
 {
     let a = code_of_number(scales.channel0, values[3 * i]);
     let b = code_of_number(scales.channel1, values[3 * i + 1]);
     let c = code_of_number(scales.channel2, values[3 * i + 2]);
-    packing::join(layout, a, b, c)
+    PointCodes {
+        number: packing::join(layout, a.code, b.code, c.code),
+        cuts: a.cut as u64 + b.cut as u64 + c.cut as u64,
+    }
 }
 
-// The numbers of eight points, all worked out before any is stored, so that the compiler can do it side by side.
-fn numbers(layout: Layout, scales: Scales, values: &[f32], i: usize) -> [u64; 8]
-    requires { ⌜ (validLayout layout ≡ true) × Fitted layout scales × (allNumbers (now values) ≡ true) × (3 * i + 24 ≤ length (now values)) ⌝ }
-    ensures { λ r. ⌜ r ≡ tabulate 8 (λ k. joinedOf layout (quantizedOf layout (now (values .entry))) (i + k)) ⌝ }
+// The numbers of eight points, and how many of their values were cut.
+pub struct EightCodes {
+    pub numbers: [u64; 8],
+    pub cuts: u64,
+}
+
+// Eight points from point i on, all worked out before any is stored, so that the compiler can do it side by side.
+fn eight(layout: Layout, scales: FloatScales, values: &[f32], i: usize) -> EightCodes
+    requires { ⌜ (validLayout layout ≡ true) × InFloats layout scales × (allNumbers (now values) ≡ true) × (3 * i + 24 ≤ length (now values)) ⌝ }
+    ensures numbers { λ r. ⌜ r .numbers ≡ tabulate 8 (λ k. joinedOf layout (quantizedOf layout (now (values .entry))) (i + k)) ⌝ }
+    ensures cuts { λ r. ⌜ count (3 * i) (valueCut layout (now (values .entry))) + r .cuts ≡ count (3 * (i + 8)) (valueCut layout (now (values .entry))) ⌝ }
 {
-    let mut v = [0u64; 8];
+    let mut numbers = [0u64; 8];
+    let mut cuts = 0;
     let mut j = 0;
     while j < 8 {
-        v[j] = joined(layout, scales, values, i + j);
+        let point = joined(layout, scales, values, i + j);
+        numbers[j] = point.number;
+        cuts += point.cuts;
         j += 1;
     }
-    v
+    EightCodes { numbers, cuts }
 }
 
-// The bytes of a line of fewer than eight points, one by one.
-fn few(layout: Layout, scales: Scales, values: &[f32], out: &mut [u8], n: usize)
+// The bytes of a line of n points, eight points a turn and the rest one by one; the answer is how many values were cut.
+pub(crate) fn points(
+    layout: Layout,
+    scales: Scales,
+    values: &[f32],
+    out: &mut [u8],
+    n: usize,
+) -> u64
     requires { ⌜ (validLayout layout ≡ true) × Fitted layout scales × (allNumbers (now values) ≡ true) ⌝ }
     requires { ⌜ (length (now values) ≡ 3 * n) × (length (now out) ≡ layout .bytes * n) × (n ≤ 4096) ⌝ }
-    ensures { λ _. ⌜ now (out .exit) ≡ packedOf layout (quantizedOf layout (now (values .entry))) ⌝ }
+    ensures cuts { λ r. ⌜ r ≡ cutsOf layout (now (values .entry)) ⌝ }
+    ensures memory { λ _. ⌜ now (out .exit) ≡ packedOf layout (quantizedOf layout (now (values .entry))) ⌝ }
 {
     let size = layout.bytes as usize;
+    let floats = in_floats(scales);
+    let mut all = 0;
     let mut i = 0;
+    while i + 8 <= n {
+        let turn = eight(layout, floats, values, i);
+        let numbers = turn.numbers;
+        all += turn.cuts;
+        packing::store_eight(out, size, i, numbers);
+        i += 8;
+    }
     while i < n {
-        packing::store_one(out, size, i, joined(layout, scales, values, i));
+        let last = joined(layout, floats, values, i);
+        packing::store_one(out, size, i, last.number);
+        all += last.cuts;
         i += 1;
     }
-}
-
-// Of a line of eight or more, eight at a time. The last eight may begin among points that are stored already, and store these
-// again.
-fn many(layout: Layout, scales: Scales, values: &[f32], out: &mut [u8], n: usize)
-    requires { ⌜ (validLayout layout ≡ true) × Fitted layout scales × (allNumbers (now values) ≡ true) × (8 ≤ n) ⌝ }
-    requires { ⌜ (length (now values) ≡ 3 * n) × (length (now out) ≡ layout .bytes * n) × (n ≤ 4096) ⌝ }
-    ensures { λ _. ⌜ now (out .exit) ≡ packedOf layout (quantizedOf layout (now (values .entry))) ⌝ }
-{
-    let size = layout.bytes as usize;
-    let mut i = 0;
-    while i < n {
-        let at = line::run_from(i, n);
-        let v = numbers(layout, scales, values, at);
-        packing::store_eight(out, size, at, v);
-        i = at + 8;
-    }
-}
-
-// The bytes of a line of n points.
-pub(crate) fn points(layout: Layout, scales: Scales, values: &[f32], out: &mut [u8], n: usize)
-    requires { ⌜ (validLayout layout ≡ true) × Fitted layout scales × (allNumbers (now values) ≡ true) ⌝ }
-    requires { ⌜ (length (now values) ≡ 3 * n) × (length (now out) ≡ layout .bytes * n) × (n ≤ 4096) ⌝ }
-    ensures { λ _. ⌜ now (out .exit) ≡ packedOf layout (quantizedOf layout (now (values .entry))) ⌝ }
-{
-    if n < 8 {
-        few(layout, scales, values, out, n);
-    } else {
-        many(layout, scales, values, out, n);
-    }
+    all
 }

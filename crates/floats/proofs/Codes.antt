@@ -1,4 +1,4 @@
--- The whole part of span * x + base + 1/2 within low .. high, for every f32 x that is a number: by one product and one sum in f64. Assumes nothing.
+-- The whole part of span * x + base + 1/2 within two ends, and whether it lies outside them, for every f32 x that is a number: by one product and one sum in f64. Assumes nothing.
 use mathlib.Core.Path.{_≡_, refl, sym, ap, ap₂, _∙_, subst}
 use Prim.Native.Nat.{ℕ, _+_, _-_, _*_, _/_, _%_, _^_, _≤_, _<_}
 use native.Mathlib.Nat.{le-trans, le-of-lt, lt-of-lt-of-le, mul-one, mul-comm, mul-assoc, add-mul, mul-pos}
@@ -13,9 +13,10 @@ use lib.Ieee.Exact.{HasValue, round-exact}
 use lib.Ieee.Back.{round-whole}
 use lib.Ieee.Positive.{positive, positive-of-value, mul-at}
 use Rattle.fractions.specs.Fraction.{bounded}
-use Rattle.floats.specs.inner.Floor.{wholeOf, end, wholeWithin}
-use Rattle.floats.proofs.Compared.{lt-not, within-high}
-use Rattle.floats.proofs.Floors.{end-positive, whole-float, below-low, rounded-floor, beyond, more}
+use Rattle.fractions.proofs.Cuts.{outside}
+use Rattle.floats.specs.declared.Ends.{Ends}
+use Rattle.floats.specs.inner.Floor.{clampedBy, clampedWithin}
+use Rattle.floats.proofs.Floors.{wholeWithin, cutWithin, Apart, Rounded, whole-below, whole-above, cut-below, cut-above, rounded-floor, rounded-cut, beyond, more}
 use Rattle.floats.proofs.Products.{digits, product}
 use Rattle.floats.proofs.Sums.{signedSum, summed}
 use Rattle.floats.proofs.Borders.{apart}
@@ -71,7 +72,7 @@ shift false x y d D = ap (λ (z : ℕ). z / d - 4096) (swap x (4096 * d) y) ∙ 
 shift true x y d D = beyond x y d D
 
 -- spans, bases and ends that an f64 has room for, with 40 binary digits of a fraction
-module _ (span base low high : ℕ) (some : 0 < span) (span-most : span ≤ 4096) (base-most : base ≤ 4095) (order : low ≤ high) (high-most : high ≤ 4095) where
+module _ (span base : ℕ) (ends : Ends) (some : 0 < span) (span-most : span ≤ 4096) (base-most : base ≤ 4095) (order : ends .low ≤ ends .high) (high-most : ends .high ≤ 4095) where
   -- ---- the numbers that the product and the sum are of
   span-value : HasValue (round binary64 false span 1) false span 1
   span-value = round-whole binary64 false span (le-trans span-most (lit≤ tt))
@@ -103,39 +104,54 @@ module _ (span base low high : ℕ) (some : 0 < span) (span-most : span ≤ 4096
   middle-positive : T (positive (middle base))
   middle-positive = positive-of-value (middle base) b 2 middle-value (omega arith)
 
-  low-most : low ≤ 4095
-  low-most = omega arith
-
   placed-inf : (s : Bool) → placed span base (inf s) ≡ inf s
   placed-inf s = ap (λ (x : Float). add binary64 x (middle base)) (mul-inf s (round binary64 false span 1) span-positive) ∙ add-inf s (middle base) middle-positive
 
-  -- the code of an infinity is the end of its sign
-  pub code-of-inf : (s : Bool) → wholeWithin low high (placed span base (inf s)) ≡ cond s low high
-  unfolding wholeWithin
-  code-of-inf true = ap (wholeWithin low high) (placed-inf true) ∙ below-low (inf true) low high order high-most (inf-low (end low) (end-positive low low-most))
-  code-of-inf false =
-      ap (wholeWithin low high) (placed-inf false)
-      ∙ ap wholeOf (within-high (end low) (end high) (inf false) (inf-high (end low) (end-positive low low-most)) (lt-not (end high) (inf false) (inf-high (end high) (end-positive high high-most))))
-      ∙ whole-float high high-most
+  -- an infinity is cut to the end of its sign
+  pub code-of-inf : (s : Bool) → clampedWithin ends (placed span base (inf s)) ≡ record { code = cond s (ends .low) (ends .high); cut = true }
+  unfolding clampedBy
+  code-of-inf true = ap (clampedWithin ends) (placed-inf true) ∙ (λ i. record { code = whole-below ends order high-most (inf true) inf-low i; cut = cut-below ends order high-most (inf true) inf-low i })
+  code-of-inf false = ap (clampedWithin ends) (placed-inf false) ∙ (λ i. record { code = whole-above ends order high-most (inf false) inf-high i; cut = cut-above ends order high-most (inf false) inf-high i })
 
-  -- that of the finite value ±m * 2 ^ e
-  pub code-of-finite : (s : Bool) (m : ℕ) (e : ℤ) → T (fits binary32 (fin s m e))
-      → wholeWithin low high (placed span base (fin s m e)) ≡ bounded low high (signedSum s (2 * (base * down e) + down e) (2 * (span * (m * up e))) / (2 * down e))
-  code-of-finite s m e t =
-      rounded-floor (placed span base (fin s m e)) (signedSum s (b * down e) y) (2 * down e) low high c2 (apart s m e b span (odd base) (digits s m e t) span-most) order high-most
-      (summed (mul binary64 (fin s m e) (round binary64 false span 1)) (middle base) s (m * up e * span) (down e) b (down-pos e) (product s m e (round binary64 false span 1) span t span-value span-most) middle-value)
-      ∙ ap (bounded low high)
-      (ap₂ (λ (u v : ℕ). signedSum s u v / (2 * down e) - 4096) b-is (ap (λ (x : ℕ). 2 * x) (mul-comm (m * up e) span))
-      ∙ shift s (2 * (base * down e) + down e) (2 * (span * (m * up e))) (2 * down e) c2)
-    where
-      y : ℕ
-      y = 2 * (m * up e * span)
+  -- the finite value ±m * 2 ^ e
+  module _ (s : Bool) (m : ℕ) (e : ℤ) (t : T (fits binary32 (fin s m e))) where
+    -- the sum, over 2 down e
+    abbrev a : ℕ
+    a = signedSum s (b * down e) (2 * (m * up e * span))
 
-      c2 : 0 < 2 * down e
-      c2 = mul-pos {m = 2} (lit< tt) (down-pos e)
+    c2 : 0 < 2 * down e
+    c2 = mul-pos {m = 2} (lit< tt) (down-pos e)
 
-      odd : (a : ℕ) → (2 * a + 8193) % 2 ≡ 1
-      odd a = omega arith
+    odd : (a : ℕ) → (2 * a + 8193) % 2 ≡ 1
+    odd a = omega arith
 
-      b-is : b * down e ≡ 2 * (base * down e) + down e + 4096 * (2 * down e)
-      b-is = add-mul (2 * base) 8193 (down e) ∙ ap (λ (x : ℕ). x + 8193 * down e) (mul-assoc 2 base (down e)) ∙ omega arith
+    far : Apart a (2 * down e)
+    far = apart s m e b span (odd base) (digits s m e t) span-most
+
+    sum : Rounded (placed span base (fin s m e)) a (2 * down e)
+    sum = summed (mul binary64 (fin s m e) (round binary64 false span 1)) (middle base) s (m * up e * span) (down e) b (down-pos e) (product s m e (round binary64 false span 1) span t span-value span-most) middle-value
+
+    -- with the 4096 apart
+    abbrev x : ℕ
+    x = 2 * (base * down e) + down e
+
+    abbrev y : ℕ
+    y = 2 * (span * (m * up e))
+
+    a-is : a ≡ signedSum s (x + 4096 * (2 * down e)) y
+    a-is = ap₂ (signedSum s) (add-mul (2 * base) 8193 (down e) ∙ ap (λ (z : ℕ). z + 8193 * down e) (mul-assoc 2 base (down e)) ∙ omega arith) (ap (λ (z : ℕ). 2 * z) (mul-comm (m * up e) span))
+
+    whole : wholeWithin ends (placed span base (fin s m e)) ≡ bounded (ends .low) (ends .high) (signedSum s x y / (2 * down e))
+    whole =
+        rounded-floor ends order high-most (placed span base (fin s m e)) a (2 * down e) c2 far sum
+        ∙ ap (bounded (ends .low) (ends .high)) (ap (λ (z : ℕ). z / (2 * down e) - 4096) a-is ∙ shift s x y (2 * down e) c2)
+
+    cut : cutWithin ends (placed span base (fin s m e)) ≡ outside (ends .strict) (ends .low) (ends .high) (signedSum s (x + 4096 * (2 * down e)) y) (2 * down e)
+    cut =
+        rounded-cut ends order high-most (placed span base (fin s m e)) a (2 * down e) c2 far sum
+        ∙ ap (λ (z : ℕ). outside (ends .strict) (ends .low) (ends .high) z (2 * down e)) a-is
+
+    pub code-of-finite : clampedWithin ends (placed span base (fin s m e))
+        ≡ record { code = bounded (ends .low) (ends .high) (signedSum s x y / (2 * down e)); cut = outside (ends .strict) (ends .low) (ends .high) (signedSum s (x + 4096 * (2 * down e)) y) (2 * down e) }
+    unfolding clampedBy
+    code-of-finite = λ i. record { code = whole i; cut = cut i }

@@ -8,8 +8,9 @@ use borrow.Author.Tests.{ltb-true, ltb-false, lt-ltb, le-ltb, eq-eqb}
 use lib.Dec.{T, ltb, eqb, ltb→lt, eqb→eq, lit<}
 use lib.Count.{trailingZeros}
 use lib.IntN.{ℤ, pos}
-use lib.Ieee.{Float, nan, inf, fin, Format, prec, low, up, down, minus, lt, le, odd, units, round, isNan, emax}
+use lib.Ieee.{Float, nan, inf, fin, Format, prec, low, up, down, minus, lt, le, ne, odd, units, round, isNan, emax}
 use lib.Ieee.Fits.{round-is, up-pos, down-pos}
+use lib.Ieee.Compare.{differs-from-itself}
 use lib.Ieee.Positive.{positive}
 use lib.Ieee.Order.{drop, kept}
 use Rattle.floats.specs.inner.Floor.{within}
@@ -142,27 +143,27 @@ lt-not (fin false m k) (fin true n d) e = absurd (true≢false (sym e))
 lt-not (fin true m k) (fin false n d) e = refl
 lt-not (fin true m k) (fin true n d) e = one-way (n * up d * down k) (m * up k * down d) e
 
+-- what is below, or above, is no NaN
+pub lt-number : (x y : Float) → lt x y ≡ true → T (not (isNan x)) × T (not (isNan y))
+unfolding lt isNan
+lt-number nan y e = absurd (true≢false (sym e))
+lt-number (inf s) nan e = absurd (true≢false (sym e))
+lt-number (inf s) (inf t) e = (tt, tt)
+lt-number (inf s) (fin t n d) e = (tt, tt)
+lt-number (fin s m k) nan e = absurd (true≢false (sym e))
+lt-number (fin s m k) (inf t) e = (tt, tt)
+lt-number (fin s m k) (fin t n d) e = (tt, tt)
+
 -- ---- what the two comparisons bring a float to
 
--- between two numbers, a number
-pub within-number : (lo hi t : Float) → T (not (isNan lo)) → T (not (isNan hi)) → T (not (isNan (within lo hi t)))
-unfolding within lt isNan
-within-number lo hi t a b = either (lt (cond (lt lo t) t lo) hi) (cond (lt lo t) t lo) hi (larger t) b
+-- below a number, or brought to it, a number
+pub within-number : (lo hi t : Float) → T (not (isNan hi)) → T (not (isNan (within lo hi t)))
+unfolding within
+within-number lo hi t b = go (lt (cond (lt lo t) t lo) hi) refl
   where
-    either : (z : Bool) (x y : Float) → T (not (isNan x)) → T (not (isNan y)) → T (not (isNan (cond z x y)))
-    either true x y p q = p
-    either false x y p q = q
-
-    -- a NaN is above nothing
-    larger : (t : Float) → T (not (isNan (cond (lt lo t) t lo)))
-    larger nan = subst (λ (z : Bool). T (not (isNan (cond z nan lo)))) (sym (none lo)) a
-      where
-        none : (x : Float) → lt x nan ≡ false
-        none nan = refl
-        none (inf s) = refl
-        none (fin s m e) = refl
-    larger (inf s) = either (lt lo (inf s)) (inf s) lo tt a
-    larger (fin s m e) = either (lt lo (fin s m e)) (fin s m e) lo tt a
+    go : (z : Bool) → lt (cond (lt lo t) t lo) hi ≡ z → T (not (isNan (cond z (cond (lt lo t) t lo) hi)))
+    go true e = lt-number (cond (lt lo t) t lo) hi e .0
+    go false e = b
 
 -- what is not above the lower number is brought to it, or to the upper, if that is not above it
 pub within-low : (lo hi t : Float) → lt lo t ≡ false → within lo hi t ≡ cond (lt lo hi) lo hi
@@ -176,3 +177,53 @@ within-high lo hi t e f = ap (λ (z : Bool). cond (lt (cond z t lo) hi) (cond z 
 pub within-same : (lo hi t : Float) → lt lo t ≡ true → lt t hi ≡ true → within lo hi t ≡ t
 unfolding within
 within-same lo hi t e f = ap (λ (z : Bool). cond (lt (cond z t lo) hi) (cond z t lo) hi) e ∙ ap (λ (z : Bool). cond z t hi) f
+
+-- ---- a number differs from one above zero if one of them is below the other
+
+unlike : (a b : ℕ) → not (eqb a b && true) ≡ ltb a b || ltb b a
+unlike a b = go (ltb a b) (ltb b a) (eqb a b) (ltb-true a b) (ltb-false a b) (ltb-true b a) (ltb-false b a) (eqb→eq a b) (eq-eqb a b)
+  where
+    go : (p q e : Bool) → (p ≡ true → a < b) → (p ≡ false → b ≤ a) → (q ≡ true → b < a) → (q ≡ false → a ≤ b) → (T e → a ≡ b) → (a ≡ b → e ≡ true) → not (e && true) ≡ p || q
+    go p q true f g h i j k = let x : a ≡ b = j tt in none p q (λ e. let y = f e in omega arith) (λ e. let y = h e in omega arith)
+      where
+        none : (p q : Bool) → (p ≡ true → ⊥) → (q ≡ true → ⊥) → false ≡ p || q
+        none true q y z = absurd (y refl)
+        none false true y z = absurd (z refl)
+        none false false y z = refl
+    go true q false f g h i j k = refl
+    go false true false f g h i j k = refl
+    go false false false f g h i j k = let x = g refl in let y = i refl in absurd (true≢false (sym (k (omega arith))))
+
+pub differs : (x y : Float) → T (positive x) → T (not (isNan y)) → ne x y ≡ lt x y || lt y x
+unfolding ne lt isNan
+differs nan y p q = absurd p
+differs (inf s) y p q = absurd p
+differs (fin true m e) y p q = absurd p
+differs (fin false m e) nan p q = absurd q
+differs (fin false m e) (inf true) p q = refl
+differs (fin false m e) (inf false) p q = refl
+differs (fin false m e) (fin false n d) p q = unlike (m * up e * down d) (n * up d * down e)
+differs (fin false m e) (fin true n d) p q =
+    let a = m * up e * down d in
+    let h : 0 < a = mul-pos (mul-pos (ltb→lt 0 m p) (up-pos e)) (down-pos d) in
+    ap (λ (z : Bool). not (eqb a (n * up d * down e) && z)) (zero-none a h) ∙ none (eqb a (n * up d * down e)) ∙ sym (lt-ltb 0 (n * up d * down e + a) (omega arith))
+  where
+    zero-none : (a : ℕ) → 0 < a → eqb a 0 ≡ false
+    zero-none a h = go (eqb a 0) (eqb→eq a 0)
+      where
+        go : (e : Bool) → (T e → a ≡ 0) → e ≡ false
+        go true f = let x : a ≡ 0 = f tt in absurd (omega arith)
+        go false f = refl
+
+    none : (z : Bool) → not (z && false) ≡ true
+    none true = refl
+    none false = refl
+
+-- and a number does not differ from itself
+pub itself : (x : Float) → T (not (isNan x)) → ne x x ≡ false
+unfolding isNan
+itself x n = go (ne x x) (λ e. differs-from-itself x (subst T (sym e) tt))
+  where
+    go : (z : Bool) → (z ≡ true → x ≡ nan) → z ≡ false
+    go true f = absurd (subst (λ (y : Float). T (not (isNan y))) (f refl) n)
+    go false f = refl

@@ -1,235 +1,425 @@
--- A fraction that is rounded to an f64, and brought to 4096 .. 8192, keeps its whole part, if no whole number lies within 2 ^ -40 above it. Assumes nothing.
-use mathlib.Core.Path.{_≡_, refl, sym, ap, _∙_, subst}
+-- A fraction that is rounded to an f64, and brought to two ends from 4096 to 8192, keeps its whole part, and is changed exactly if it lies outside them, where no whole number lies within 2 ^ -40 of it but itself. Assumes nothing.
+use mathlib.Core.Path.{_≡_, refl, sym, ap, ap₂, _∙_, subst}
 use mathlib.Core.Logic.{_⊎_, inl, inr}
-use Prim.Native.Nat.{ℕ, suc, _+_, _-_, _*_, _/_, _^_, _≤_, _<_}
-use native.Mathlib.Nat.{le-trans, le-of-eq, le-of-suc-le-suc, lt-suc-self, lt-of-lt-of-le, lt-of-le-of-lt, div-mul-le-self, mul-lt-mul-of-pos-right, lt-of-not-le, not-le-of-lt, mul-one, mul-assoc, mul-right-comm, add-mul, one-mul, le-div-iff-mul-le, div-lt-iff-lt-mul, div-eq-of-lt, div-eq-of-lt-le, add-mul-div-right}
+use Prim.Native.Nat.{ℕ, suc, _+_, _-_, _*_, _/_, _%_, _^_, _≤_, _<_}
+use native.Mathlib.Nat.{le-trans, le-of-eq, le-of-suc-le-suc, lt-of-lt-of-le, lt-of-le-of-lt, lt-of-not-le, div-mul-le-self, mul-lt-mul-of-pos-right, lt-of-mul-lt-mul-right, mul-one, mul-assoc, mul-right-comm, mul-le-mul-right, mul-pos, le-of-mul-le-mul-right, add-mul, one-mul, le-div-iff-mul-le, div-lt-iff-lt-mul, div-eq-of-lt, div-eq-of-lt-le, add-mul-div-right}
 use native.Mathlib.Omega.{arith}
-use mathlib.Core.Bool.{Bool, true, false, not, cond}
-use lib.Dec.{T, leb, leb→le, nleb→lt, lit<, lit≤}
-use lib.Pow.{pow-add, pow-mono, shl-lt}
 use native.Mathlib.Numerals.{lt-add-one}
-use lib.Ieee.{Float, binary64, round, lt, le}
+use mathlib.Core.Bool.{Bool, true, false, not, cond, _||_, true≢false}
+use borrow.Author.Tests.{ltb-true, ltb-false, lt-ltb, leb-true, leb-false, le-leb}
+use lib.Dec.{T, leb, ltb, leb→le, nleb→lt, ltb→lt, nltb→le, lit<, lit≤}
+use lib.IntN.{negsuc}
+use lib.Pow.{pow-add, pow-mono, shl-lt}
+use lib.Ieee.{Float, nan, inf, fin, binary64, up, down, round, sum, sub, lt, le, ne, isNan}
+use lib.Ieee.Fits.{down-pos}
 use lib.Ieee.Exact.{HasValue, round-exact}
 use lib.Ieee.Back.{round-whole}
 use lib.Ieee.Order.{round-mono}
-use lib.Ieee.Positive.{num, den, den-pos, positive, positive-of-value, own-value, value→cross, values-of-le, between}
+use lib.Ieee.Scale.{round-same}
+use lib.Ieee.Positive.{num, den, den-pos, positive, positive-of-value, own-value, value→cross, values-of-le, between, mul-at}
+use Rattle.lists.proofs.Numbers.{sub-mul}
 use Rattle.fractions.specs.Fraction.{bounded}
-use Rattle.floats.specs.inner.Floor.{within, wholeOf, end, wholeWithin}
-use Rattle.floats.proofs.Compared.{not-lt, lt-not, round-plain, within-low, within-high, within-same}
+use Rattle.fractions.proofs.Cuts.{outside}
+use Rattle.floats.specs.declared.Ends.{Ends}
+use Rattle.floats.specs.declared.FloatEnds.{FloatEnds}
+use Rattle.floats.specs.inner.Floor.{firstOf, inUnits, within, inFloats, lastOf, brought, wholeOf, clampedBy, clampedWithin}
+use Rattle.floats.proofs.Compared.{not-nan, lt-le, not-lt, lt-not, round-plain, within-number, within-low, within-high, within-same, differs, itself, lt-number}
 use Rattle.floats.proofs.Pattern.{whole-is}
-
--- a whole number as an f64
-abbrev pub float : ℕ → Float
-float n = round binary64 false n 1
-
--- no whole number lies less than 2 ^ -40 above n / d
-abbrev pub Apart : ℕ → ℕ → Type 0
-Apart n d = (k : ℕ) → n < k * d → n * 1099511627776 + d ≤ k * d * 1099511627776
-
-float-value : (n : ℕ) → n ≤ 8192 → HasValue (float n) false n 1
-float-value n h = round-whole binary64 false n (le-trans h (lit≤ tt))
-
-float-positive : (n : ℕ) → 0 < n → n ≤ 8192 → T (positive (float n))
-float-positive n z h = positive-of-value (float n) n 1 (float-value n h) z
-
--- its own whole part
-pub whole-float : (k : ℕ) → k ≤ 4095 → wholeOf (float (k + 4096)) ≡ k
-whole-float k h =
-    let x = float (k + 4096) in
-    let e : num x * 1 ≡ (k + 4096) * den x = value→cross x (k + 4096) 1 (float-value (k + 4096) (omega arith)) in
-    let f : num x ≡ (k + 4096) * den x = sym (mul-one (num x)) ∙ e in
-    whole-is x (k + 4096) (float-positive (k + 4096) (omega arith) (omega arith)) (le-of-eq (sym f))
-    (subst (λ (z : ℕ). z < (k + 4096 + 1) * den x) (sym f) (mul-lt-mul-of-pos-right (lt-add-one (k + 4096)) (den-pos x)))
-    (omega arith) (omega arith)
-    ∙ cut k
-  where
-    cut : (k : ℕ) → k + 4096 - 4096 ≡ k
-    cut k = omega arith
 
 -- 2 ^ 40
 abbrev E : ℕ
 E = 1099511627776
 
--- the largest f64 below k
-abbrev before : ℕ → Float
-before k = round binary64 false (k * E - 1) E
+-- ---- units of 2 ^ -40
 
-before-value : (k : ℕ) → 0 < k → k ≤ 8192 → HasValue (before k) false (k * E - 1) E
-before-value k z h =
-    let small : k * E - 1 < 2 ^ 53 = omega arith in
-    exact (k * E - 1) small
+abbrev pub unit : ℕ → Float
+unit k = round binary64 false k E
+
+unit-value : (k : ℕ) → k ≤ 2 ^ 53 → HasValue (unit k) false k E
+unit-value k h = go (ltb k (2 ^ 53)) (ltb→lt k (2 ^ 53)) (nltb→le k (2 ^ 53))
   where
-    exact : (q : ℕ) → q < 2 ^ 53 → HasValue (round binary64 false q E) false q E
-    exact q s = round-exact binary64 false q E q 1034 (lit< tt) s (lt-of-lt-of-le (shl-lt 53 1034 s) (pow-mono {i = 1087} {j = 2098} (lit≤ tt))) (ap (λ (x : ℕ). q * x) (pow-add 2 1034 40) ∙ sym (mul-assoc q (2 ^ 1034) (2 ^ 40)))
+    go : (b : Bool) → (T b → k < 2 ^ 53) → (T (not b) → 2 ^ 53 ≤ k) → HasValue (unit k) false k E
+    go true f g =
+        let s = f tt in
+        round-exact binary64 false k E k 1034 (lit< tt) s (lt-of-lt-of-le (shl-lt 53 1034 s) (pow-mono {i = 1087} {j = 2098} (lit≤ tt))) (ap (λ (x : ℕ). k * x) (pow-add 2 1034 40) ∙ sym (mul-assoc k (2 ^ 1034) (2 ^ 40)))
+    go false f g =
+        let l : 2 ^ 53 ≤ k = g tt in
+        let e : 2 ^ 53 ≡ k = omega arith in
+        subst (λ (x : ℕ). HasValue (unit x) false x E) e (round-exact binary64 false (2 ^ 53) E 1 1087 (lit< tt) (lit< tt) (lit< tt) refl)
 
-before-times : (k d : ℕ) → 0 < k → (k * E - 1) * d + d ≡ k * d * E
-before-times k d z =
-    let w = k * E - 1 in
-    let e1 : w + 1 ≡ k * E = omega arith in
-    sym (ap (λ (x : ℕ). w * d + x) (one-mul d)) ∙ sym (add-mul w 1 d) ∙ ap (λ (x : ℕ). x * d) e1 ∙ mul-right-comm k E d
+pub unit-positive : (k : ℕ) → 0 < k → k ≤ 2 ^ 53 → T (positive (unit k))
+unit-positive k z h = positive-of-value (unit k) k E (unit-value k h) z
 
-no-gap : (a b c z : ℕ) → a * E ≤ b → b + z ≡ c * E → c ≤ a → 0 < z → ⊥
-no-gap a b c z x y w q = omega arith
+-- as the code has them
+pub in-units : (k : ℕ) → 0 < k → k ≤ 2 ^ 53 → inUnits k ≡ unit k
+in-units k z h =
+    let v = round-whole binary64 false k h in
+    mul-at binary64 (round binary64 false k 1) (fin false 1 (negsuc 39)) k 1 1 E (positive-of-value (round binary64 false k 1) k 1 v z) tt (lit< tt) (lit< tt) v (refl, refl)
+    ∙ ap (λ (x : ℕ). round binary64 false x E) (mul-one k)
 
--- ---- the ends of the codes, as floats
-pub end-positive : (k : ℕ) → k ≤ 4095 → T (positive (end k))
-end-positive k h = float-positive (k + 4096) (omega arith) (omega arith)
-
--- the lower of two ends, if one is below the other, and else either
-lower : (low high : ℕ) → low ≤ high → high ≤ 4095 → wholeOf (cond (lt (end low) (end high)) (end low) (end high)) ≡ low
-lower low high lh h = go (lt (end low) (end high)) (not-lt (end low) (end high) (round-plain binary64 (low + 4096) 1) (round-plain binary64 (high + 4096) 1))
+-- a unit below k
+less-one : (x : Float) (k : ℕ) → 0 < k → HasValue x false k 1 → sub binary64 x (fin false 1 (negsuc 39)) ≡ unit (k * E - 1)
+unfolding sub sum
+less-one nan k K v = absurd v
+less-one (inf t) k K v = absurd v
+less-one (fin true m e) k K v = absurd (true≢false (v .0))
+less-one (fin false m e) k K v =
+    let a = m * up e * E in
+    let c = down e in
+    let w : m * up e ≡ k * c = sym (mul-one (m * up e)) ∙ v .1 in
+    let b : 1 * 1 * c ≡ c = one-mul c in
+    let o : c ≤ k * c = le-trans (le-of-eq (sym b)) (mul-le-mul-right c K) in
+    let l : 1 * 1 * c ≤ a = omega (arith, w, b) in
+    pick a (1 * 1 * c) (c * E) l
+    ∙ round-same binary64 false (a - 1 * 1 * c) (c * E) (k * E - 1) E (mul-pos {m = c} {n = E} (down-pos e) (lit< tt)) (lit< tt)
+    (scaled (k * E) c a (omega (arith, w, mul-right-comm k E c)) b)
   where
-    same : (a b : ℕ) → a ≤ b → (b + 4096) * 1 ≤ (a + 4096) * 1 → b ≡ a
-    same a b l m = omega arith
+    pick : (a b c : ℕ) → b ≤ a → sum binary64 false a true b c ≡ round binary64 false (a - b) c
+    pick a b c h = go (ltb a b) (ltb→lt a b)
+      where
+        go : (t : Bool) → (T t → a < b) → cond t (round binary64 true (b - a) c) (round binary64 false (a - b) c) ≡ round binary64 false (a - b) c
+        go true k = let z : a < b = k tt in absurd (omega arith)
+        go false k = refl
 
-    go : (b : Bool) → (b ≡ false → T (le (end high) (end low))) → wholeOf (cond b (end low) (end high)) ≡ low
-    go true f = whole-float low (omega arith)
-    go false f =
-        whole-float high h
-        ∙ same low high lh
-        (values-of-le (end high) (end low) (high + 4096) 1 (low + 4096) 1 (end-positive high h) (end-positive low (omega arith)) (float-value (high + 4096) (omega arith)) (float-value (low + 4096) (omega arith)) (f refl))
+    scaled : (q c a : ℕ) → a ≡ q * c → 1 * 1 * c ≡ c → (a - 1 * 1 * c) * E ≡ (q - 1) * (c * E)
+    scaled q c a f b = ap₂ (λ (x y : ℕ). (x - y) * E) f b ∙ ap (λ (x : ℕ). x * E) (sym (sub-mul q 1 c ∙ ap (λ (x : ℕ). q * c - x) (one-mul c))) ∙ mul-assoc (q - 1) c E
 
-module _ (n d : ℕ) (d0 : 0 < d) (apart : Apart n d) where
+last-unit : (high : ℕ) → high < 65536 → lastOf high ≡ unit ((high + 4097) * E - 1)
+last-unit high h = less-one (round binary64 false (high + 4097) 1) (high + 4097) (omega arith) (round-whole binary64 false (high + 4097) (omega arith))
+
+-- the upper end is a number, and so is all that is brought to it
+pub brought-number : (f : FloatEnds) (t : Float) → f .high < 65536 → T (not (isNan (brought f t)))
+unfolding brought
+brought-number f t h =
+    within-number (f .first) (lastOf (f .high)) t
+    (subst (λ (x : Float). T (not (isNan x))) (sym (last-unit (f .high) h)) (not-nan (unit ((f .high + 4097) * E - 1)) (round-plain binary64 ((f .high + 4097) * E - 1) E)))
+
+-- the whole part of k units
+whole-unit : (v k : ℕ) → v ≤ 4095 → (v + 4096) * E ≤ k → k < (v + 4097) * E → wholeOf (unit k) ≡ v
+whole-unit v k h lo hi =
+    let s : k ≤ 2 ^ 53 = omega arith in
+    let p = unit-positive k (omega arith) s in
+    let x = unit k in
+    let e : num x * E ≡ k * den x = value→cross x k E (unit-value k s) in
+    let a : (v + 4096) * E * den x ≤ k * den x = mul-le-mul-right (den x) lo in
+    let b : k * den x < (v + 4097) * E * den x = mul-lt-mul-of-pos-right hi (den-pos x) in
+    whole-is x (v + 4096) p
+    (le-of-mul-le-mul-right {k = E} (le-trans (le-of-eq (mul-right-comm (v + 4096) (den x) E)) (le-trans a (le-of-eq (sym e)))) (lit< tt))
+    (lt-of-mul-lt-mul-right E (lt-of-le-of-lt (le-of-eq e) (lt-of-lt-of-le b (le-of-eq (mul-right-comm (v + 4097) E (den x) ∙ ap (λ (y : ℕ). y * den x * E) (more v))))))
+    (omega arith) (omega arith)
+    ∙ less v
+  where
+    more : (v : ℕ) → v + 4097 ≡ v + 4096 + 1
+    more v = omega arith
+
+    less : (v : ℕ) → v + 4096 - 4096 ≡ v
+    less v = omega arith
+
+-- ---- a rounded fraction beside units
+
+-- no whole number lies less than 2 ^ -40 above n / d, and none less than that below
+pub record Apart (n d : ℕ) : Type 0 where
+  pub above : (k : ℕ) → n < k * d → n * E + d ≤ k * d * E
+  pub below : (k : ℕ) → k * d < n → k * d * E + d ≤ n * E
+
+module _ (n d : ℕ) (d0 : 0 < d) where
   abbrev t : Float
   t = round binary64 false n d
 
-  -- above the whole numbers that the fraction is above, and below those that it is below
-  over : (k : ℕ) → k * d ≤ n → T (le (float k) t)
-  over k h = round-mono binary64 k 1 n d (lit< tt) d0 (le-trans h (le-of-eq (sym (mul-one n))))
+  over : (k : ℕ) → k * d ≤ n * E → T (le (unit k) t)
+  over k h = round-mono binary64 k E n d (lit< tt) d0 h
 
-  upto : (k : ℕ) → n ≤ k * d → T (le t (float k))
-  upto k h = round-mono binary64 n d k 1 d0 (lit< tt) (le-trans (le-of-eq (mul-one n)) h)
+  upto : (k : ℕ) → n * E ≤ k * d → T (le t (unit k))
+  upto k h = round-mono binary64 n d k E d0 (lit< tt) h
 
-  under : (k : ℕ) → 0 < k → n < k * d → T (le t (before k))
-  under k z h =
-      round-mono binary64 n d (k * E - 1) E d0 (lit< tt) (cut (n * E) d (k * d * E) ((k * E - 1) * d) (apart k h) (before-times k d z))
+  -- what is not above k units is below k + 1, and what is not below k + 1 is above k
+  below-next : (k : ℕ) → 0 < k → k + 1 ≤ 2 ^ 53 → n * E ≤ k * d → lt t (unit (k + 1)) ≡ true
+  below-next k z s h = go (lt t (unit (k + 1))) refl
     where
-      cut : (a d b c : ℕ) → a + d ≤ b → c + d ≡ b → a ≤ c
-      cut a d b c h e = omega arith
+      go : (b : Bool) → lt t (unit (k + 1)) ≡ b → b ≡ true
+      go true e = refl
+      go false e =
+          let l : T (le (unit (k + 1)) t) = not-lt t (unit (k + 1)) (round-plain binary64 n d) (round-plain binary64 (k + 1) E) e in
+          let a = unit-positive k z (omega arith) in
+          let b = unit-positive (k + 1) (omega arith) s in
+          let p = between (unit (k + 1)) t (unit k) b a l (upto k h) in
+          let x = values-of-le (unit (k + 1)) t (k + 1) E (num t) (den t) b p (unit-value (k + 1) s) (own-value t p) l in
+          let y = values-of-le t (unit k) (num t) (den t) k E p a (own-value t p) (unit-value k (omega arith)) (upto k h) in
+          absurd (omega (arith, den-pos t, add-mul k 1 (den t), one-mul (den t)))
 
-  -- its whole part, where it is a number v of 4096 .. 8191
-  module _ (p : T (positive t)) (v : ℕ) (v0 : 4096 ≤ v) (v1 : v < 8192) (lo : v * den t ≤ num t) (hi : num t < (v + 1) * den t) where
-    reached : v * d ≤ n
-    reached = le-of-suc-le-suc (lt-of-not-le (λ (g : suc n ≤ v * d). clash g))
+  above-last : (k : ℕ) → 0 < k → k + 1 ≤ 2 ^ 53 → (k + 1) * d ≤ n * E → lt (unit k) t ≡ true
+  above-last k z s h = go (lt (unit k) t) refl
+    where
+      go : (b : Bool) → lt (unit k) t ≡ b → b ≡ true
+      go true e = refl
+      go false e =
+          let l : T (le t (unit k)) = not-lt (unit k) t (round-plain binary64 k E) (round-plain binary64 n d) e in
+          let a = unit-positive k z (omega arith) in
+          let b = unit-positive (k + 1) (omega arith) s in
+          let p = between (unit (k + 1)) t (unit k) b a (over (k + 1) h) l in
+          let x = values-of-le (unit (k + 1)) t (k + 1) E (num t) (den t) b p (unit-value (k + 1) s) (own-value t p) (over (k + 1) h) in
+          let y = values-of-le t (unit k) (num t) (den t) k E p a (own-value t p) (unit-value k (omega arith)) l in
+          absurd (omega (arith, den-pos t, add-mul k 1 (den t), one-mul (den t)))
+
+  not-below : (k : ℕ) → k * d ≤ n * E → lt t (unit k) ≡ false
+  not-below k h = go (lt t (unit k)) refl
+    where
+      go : (b : Bool) → lt t (unit k) ≡ b → b ≡ false
+      go true e = absurd (lt-le t (unit k) (round-plain binary64 n d) (round-plain binary64 k E) e (over k h))
+      go false e = refl
+
+  not-above : (k : ℕ) → n * E ≤ k * d → lt (unit k) t ≡ false
+  not-above k h = go (lt (unit k) t) refl
+    where
+      go : (b : Bool) → lt (unit k) t ≡ b → b ≡ false
+      go true e = absurd (lt-le (unit k) t (round-plain binary64 k E) (round-plain binary64 n d) e (upto k h))
+      go false e = refl
+
+-- ---- what a float is brought to, and whether that changes it
+module _ (lo hi : Float) (p : T (positive lo)) (q : T (positive hi)) (order : lt lo hi ≡ true) where
+  pub brought-low : (t : Float) → lt lo t ≡ false → within lo hi t ≡ lo
+  brought-low t e = within-low lo hi t e ∙ ap (λ (z : Bool). cond z lo hi) order
+
+  pub changed : (t : Float) → T (not (isNan t)) → ne (within lo hi t) t ≡ cond (lt lo t) (lt hi t) (lt t lo)
+  changed t n = first (lt lo t) refl
+    where
+      second : (b : Bool) → lt t hi ≡ b → lt lo t ≡ true → ne (within lo hi t) t ≡ lt hi t
+      second true f e = ap (λ (x : Float). ne x t) (within-same lo hi t e f) ∙ itself t n ∙ sym (lt-not t hi f)
+      second false f e = ap (λ (x : Float). ne x t) (within-high lo hi t e f) ∙ differs hi t q n ∙ ap (λ (z : Bool). lt hi t || z) f ∙ or-false (lt hi t)
+        where
+          or-false : (z : Bool) → z || false ≡ z
+          or-false true = refl
+          or-false false = refl
+
+      first : (b : Bool) → lt lo t ≡ b → ne (within lo hi t) t ≡ cond b (lt hi t) (lt t lo)
+      first true e = second (lt t hi) refl e
+      first false e = ap (λ (x : Float). ne x t) (brought-low t e) ∙ differs lo t p n ∙ ap (λ (z : Bool). z || lt t lo) e
+
+-- ---- the ends of a clamp
+
+-- the two parts of what a clamp gives
+abbrev pub wholeWithin : Ends → Float → ℕ
+wholeWithin e t = wholeOf (brought (inFloats e) t)
+
+abbrev pub cutWithin : Ends → Float → Bool
+cutWithin e t = ne (brought (inFloats e) t) t
+
+module _ (e : Ends) (order : e .low ≤ e .high) (top : e .high ≤ 4095) where
+  abbrev low : ℕ
+  low = e .low
+
+  abbrev high : ℕ
+  high = e .high
+
+  abbrev step : ℕ
+  step = cond (e .strict) 1 0
+
+  step-le : step ≤ 1
+  step-le = go (e .strict)
+    where
+      go : (b : Bool) → cond b 1 0 ≤ 1
+      go true = lit≤ tt
+      go false = lit≤ tt
+
+  -- the first and the last within them, in units
+  abbrev pub F : ℕ
+  F = (low + 4096) * E + step
+
+  abbrev pub L : ℕ
+  L = (high + 4097) * E - 1
+
+  abbrev lo : Float
+  lo = unit F
+
+  abbrev hi : Float
+  hi = unit L
+
+  first-is : inUnits (firstOf e) ≡ lo
+  first-is = let m : low % 4096 ≡ low = omega arith in ap (λ (x : ℕ). inUnits ((x + 4096) * E + step)) m ∙ in-units F (omega arith) (omega (arith, step-le))
+
+  last-is : lastOf high ≡ hi
+  last-is = last-unit high (omega arith)
+
+  lo-positive : T (positive lo)
+  lo-positive = unit-positive F (omega arith) (omega (arith, step-le))
+
+  hi-positive : T (positive hi)
+  hi-positive = unit-positive L (omega arith) (omega arith)
+
+  ordered : lt lo hi ≡ true
+  ordered = above-last L E (lit< tt) F (omega arith) (omega (arith, step-le)) (omega (arith, step-le))
+
+  brought-is : (t : Float) → brought (inFloats e) t ≡ within lo hi t
+  unfolding brought
+  brought-is t = ap₂ (λ (x y : Float). within x y t) first-is last-is
+
+  low-whole : wholeOf lo ≡ low
+  low-whole = whole-unit low F (omega arith) (omega arith) (omega (arith, step-le))
+
+  high-whole : wholeOf hi ≡ high
+  high-whole = whole-unit high L top (omega arith) (omega arith)
+
+  -- ---- what is below every number above zero, and what is above
+  pub whole-below : (t : Float) → ((y : Float) → T (positive y) → lt t y ≡ true) → wholeWithin e t ≡ low
+  whole-below t h = ap wholeOf (brought-is t ∙ brought-low lo hi lo-positive hi-positive ordered t (lt-not t lo (h lo lo-positive))) ∙ low-whole
+
+  pub whole-above : (t : Float) → ((y : Float) → T (positive y) → lt y t ≡ true) → wholeWithin e t ≡ high
+  whole-above t h = ap wholeOf (brought-is t ∙ within-high lo hi t (h lo lo-positive) (lt-not hi t (h hi hi-positive))) ∙ high-whole
+
+  cut-as : (t : Float) → T (not (isNan t)) → cutWithin e t ≡ cond (lt lo t) (lt hi t) (lt t lo)
+  cut-as t n = ap (λ (x : Float). ne x t) (brought-is t) ∙ changed lo hi lo-positive hi-positive ordered t n
+
+  pub cut-below : (t : Float) → ((y : Float) → T (positive y) → lt t y ≡ true) → cutWithin e t ≡ true
+  cut-below t h = let l = h lo lo-positive in cut-as t (lt-number t lo l .0) ∙ ap₂ (λ (x y : Bool). cond x (lt hi t) y) (lt-not t lo l) l
+
+  pub cut-above : (t : Float) → ((y : Float) → T (positive y) → lt y t ≡ true) → cutWithin e t ≡ true
+  cut-above t h = cut-as t (lt-number lo t (h lo lo-positive) .1) ∙ ap₂ (λ (x y : Bool). cond x y (lt t lo)) (h lo lo-positive) (h hi hi-positive)
+
+  -- ---- a rounded fraction
+  module _ (n d : ℕ) (d0 : 0 < d) (apart : Apart n d) where
+    abbrev x : Float
+    x = round binary64 false n d
+
+    numbers : T (not (isNan x))
+    numbers = not-nan x (round-plain binary64 n d)
+
+    -- a whole number's units over d
+    abbrev K : ℕ
+    K = low + 4096
+
+    abbrev M : ℕ
+    M = high + 4097
+
+    times : (k : ℕ) → k * E * d ≡ k * d * E
+    times k = mul-right-comm k E d
+
+    less : (k : ℕ) → 0 < k → (k * E - 1) * d + d ≡ k * d * E
+    less k z =
+        let w = k * E - 1 in
+        let e1 : w + 1 ≡ k * E = omega arith in
+        sym (ap (λ (y : ℕ). w * d + y) (one-mul d)) ∙ sym (add-mul w 1 d) ∙ ap (λ (y : ℕ). y * d) e1 ∙ times k
+
+    -- below a whole number, and from it on
+    under : (k : ℕ) → 0 < k → k ≤ 8191 → n < k * d → (m : ℕ) → k * E ≤ m → m ≤ 2 ^ 53 → lt x (unit m) ≡ true
+    under k z s h m l r =
+        let a = below-next n d d0 (m - 1) (omega arith) (omega arith) (le-trans (omega (arith, less k z, apart .above k h)) (mul-le-mul-right {m = k * E - 1} {n = m - 1} d (omega arith))) in
+        let q : m - 1 + 1 ≡ m = omega arith in
+        subst (λ (y : ℕ). lt x (unit y) ≡ true) q a
+
+    from : (k : ℕ) → k * d ≤ n → (m : ℕ) → 0 < m → m < k * E → m + 1 ≤ 2 ^ 53 → lt (unit m) x ≡ true
+    from k h m z l s = above-last n d d0 m z s (le-trans (mul-le-mul-right {m = m + 1} {n = k * E} d (omega arith)) (omega (arith, times k)))
+
+    low-out : (b : Bool) → step ≡ cond b 1 0 → n < K * d + cond b 1 0 → lt x lo ≡ true
+    low-out false s h = under K (omega arith) (omega arith) (omega arith) F (omega arith) (omega (arith, step-le))
+    low-out true s h =
+        let a = below-next n d d0 (K * E) (omega arith) (omega arith) (omega (arith, times K)) in
+        subst (λ (y : ℕ). lt x (unit y) ≡ true) (omega arith) a
+
+    low-in : (b : Bool) → step ≡ cond b 1 0 → K * d + cond b 1 0 ≤ n → lt x lo ≡ false
+    low-in false s h = not-below n d d0 F (omega (arith, times K, ap (λ (y : ℕ). (K * E + y) * d) s, add-mul (K * E) 0 d))
+    low-in true s h = not-below n d d0 F (omega (arith, apart .below K (omega arith), times K, ap (λ (y : ℕ). (K * E + y) * d) s, add-mul (K * E) 1 d, one-mul d))
+
+    high-out : M * d ≤ n → lt hi x ≡ true
+    high-out h = from M h L (omega arith) (omega arith) (omega arith)
+
+    high-in : n < M * d → lt hi x ≡ false
+    high-in h = not-above n d d0 L (omega (arith, apart .above M h, less M (omega arith)))
+
+    pub cut-is : cutWithin e x ≡ outside (e .strict) low high n d
+    cut-is = cut-as x numbers ∙ first (ltb n (K * d + step)) refl
       where
-        clash : n < v * d → ⊥
-        clash g =
-            let z : 0 < v * E - 1 = omega arith in
-            let w = before-value v (omega arith) (omega arith) in
-            no-gap (num t) ((v * E - 1) * den t) (v * den t) (den t)
-            (values-of-le t (before v) (num t) (den t) (v * E - 1) E p (positive-of-value (before v) (v * E - 1) E w z) (own-value t p) w (under v (omega arith) g))
-            (before-times v (den t) (omega arith)) lo (den-pos t)
+        second : (b c : Bool) → leb (M * d) n ≡ b → lt lo x ≡ c → lt x lo ≡ false → cond c (lt hi x) (lt x lo) ≡ b
+        second true true f g h = high-out (leb-true (M * d) n f)
+        second true false f g h =
+            let a = from M (leb-true (M * d) n f) F (omega arith) (omega (arith, step-le)) (omega (arith, step-le)) in
+            absurd (true≢false (sym a ∙ g))
+        second false true f g h = high-in (leb-false (M * d) n f)
+        second false false f g h = h
 
-    passed : n < (v + 1) * d
-    passed = lt-of-not-le (λ (g : (v + 1) * d ≤ n). clash g)
-      where
-        clash : (v + 1) * d ≤ n → ⊥
-        clash g =
-            not-le-of-lt hi
-            (le-trans
-            (values-of-le (float (v + 1)) t (v + 1) 1 (num t) (den t) (float-positive (v + 1) (omega arith) (omega arith)) p (float-value (v + 1) (omega arith)) (own-value t p) (over (v + 1) g))
-            (le-of-eq (mul-one (num t))))
-
-    pub quotient : n / d ≡ v
-    quotient = div-eq-of-lt-le d reached passed
-
-  module _ (low high : ℕ) (lh : low ≤ high) (h : high ≤ 4095) where
-    abbrev bottom : Float
-    bottom = end low
-
-    abbrev top : Float
-    top = end high
-
-    inside : T (le bottom t) → T (le t top) → wholeOf t ≡ bounded low high (n / d - 4096)
-    inside a b =
-        let p = between bottom t top (end-positive low (omega arith)) (end-positive high h) a b in
-        let a' : (low + 4096) * den t ≤ num t = le-trans (values-of-le bottom t (low + 4096) 1 (num t) (den t) (end-positive low (omega arith)) p (float-value (low + 4096) (omega arith)) (own-value t p) a) (le-of-eq (mul-one (num t))) in
-        let b' : num t ≤ (high + 4096) * den t = le-trans (le-of-eq (sym (mul-one (num t)))) (values-of-le t top (num t) (den t) (high + 4096) 1 p (end-positive high h) (own-value t p) (float-value (high + 4096) (omega arith)) b) in
-        at p (num t / den t) (le-div-iff-mul-le (den-pos t) .1 a') (quotient-le (num t) (den t) (high + 4096) (den-pos t) b') (div-mul-le-self (num t) (den t)) (div-lt-iff-lt-mul (den-pos t) .0 (lt-add-one (num t / den t)))
-      where
-        quotient-le : (a d k : ℕ) → 0 < d → a ≤ k * d → a / d ≤ k
-        quotient-le a d k D h = le-of-suc-le-suc (div-lt-iff-lt-mul {y = suc k} D .1 (lt-of-le-of-lt h (mul-lt-mul-of-pos-right {k = d} (lt-suc-self k) D)))
-
-        at : T (positive t) → (v : ℕ) → low + 4096 ≤ v → v ≤ high + 4096 → v * den t ≤ num t → num t < (v + 1) * den t → wholeOf t ≡ bounded low high (n / d - 4096)
-        at p v x y lo hi =
-            let q : n / d ≡ v = quotient p v (omega arith) (omega arith) lo hi in
-            whole-is t v p lo hi (omega arith) (omega arith) ∙ omega arith
+        first : (b : Bool) → ltb n (K * d + step) ≡ b → cond (lt lo x) (lt hi x) (lt x lo) ≡ b || leb (M * d) n
+        first true f =
+            let a = low-out (e .strict) refl (ltb-true n (K * d + step) f) in
+            ap₂ (λ (y z : Bool). cond y (lt hi x) z) (lt-not x lo a) a
+        first false f = second (leb (M * d) n) (lt lo x) refl refl (low-in (e .strict) refl (ltb-false n (K * d + step) f))
 
     abbrev answer : ℕ
     answer = bounded low high (n / d - 4096)
 
-    -- not above the bottom, and not below the top
-    small : lt bottom t ≡ false → low ≡ answer
-    small e =
-        let g : n / d < low + 4097 = div-lt-iff-lt-mul d0 .1 (lt-of-not-le (λ (g : (low + 4097) * d ≤ n). passes g)) in
-        omega arith
+    -- its own whole part, where it lies within
+    inside : K * d ≤ n → n < M * d → wholeOf x ≡ answer
+    inside a b = at (n / d) (le-div-iff-mul-le d0 .1 a) (div-lt-iff-lt-mul d0 .1 b) (div-mul-le-self n d) (div-lt-iff-lt-mul d0 .0 (lt-add-one (n / d)))
       where
-        passes : (low + 4097) * d ≤ n → ⊥
-        passes g =
-            let next = float (low + 4097) in
-            let u = float-positive (low + 4097) (omega arith) (omega arith) in
-            let b = end-positive low (omega arith) in
-            let l : T (le t bottom) = not-lt bottom t (round-plain binary64 (low + 4096) 1) (round-plain binary64 n d) e in
-            let p = between next t bottom u b (over (low + 4097) g) l in
-            none (num t) (den t) low (den-pos t)
-            (values-of-le next t (low + 4097) 1 (num t) (den t) u p (float-value (low + 4097) (omega arith)) (own-value t p) (over (low + 4097) g))
-            (values-of-le t bottom (num t) (den t) (low + 4096) 1 p b (own-value t p) (float-value (low + 4096) (omega arith)) l)
-          where
-            none : (a d k : ℕ) → 0 < d → (k + 4097) * d ≤ a * 1 → a * 1 ≤ (k + 4096) * d → ⊥
-            none a d k z x y = omega (arith, add-mul k 4097 d, add-mul k 4096 d)
+        scaled : (v a c : ℕ) → 0 < c → a * E ≤ ((v + 1) * E - 1) * c → a < (v + 1) * c
+        scaled v a c C h =
+            let w = (v + 1) * E - 1 in
+            let e1 : w + 1 ≡ (v + 1) * E = omega arith in
+            let e2 : w * c + c ≡ (v + 1) * c * E = sym (ap (λ (y : ℕ). w * c + y) (one-mul c)) ∙ sym (add-mul w 1 c) ∙ ap (λ (y : ℕ). y * c) e1 ∙ mul-right-comm (v + 1) E c in
+            omega arith
 
-    large : lt t top ≡ false → high ≡ answer
-    large e =
-        let g : high + 4096 ≤ n / d = le-div-iff-mul-le d0 .1 (le-of-suc-le-suc (lt-of-not-le (λ (g : suc n ≤ (high + 4096) * d). stays g))) in
-        omega arith
+        at : (v : ℕ) → K ≤ v → v < M → v * d ≤ n → n < (v + 1) * d → wholeOf x ≡ bounded low high (v - 4096)
+        at v f g lower upper =
+            let u = (v + 1) * E - 1 in
+            let l = over n d d0 (v * E) (omega (arith, times v)) in
+            let r = upto n d d0 u (omega (arith, apart .above (v + 1) upper, less (v + 1) (omega arith))) in
+            let p = between (unit (v * E)) x (unit u) (unit-positive (v * E) (omega arith) (omega arith)) (unit-positive u (omega arith) (omega arith)) l r in
+            let y = values-of-le (unit (v * E)) x (v * E) E (num x) (den x) (unit-positive (v * E) (omega arith) (omega arith)) p (unit-value (v * E) (omega arith)) (own-value x p) l in
+            let z = values-of-le x (unit u) (num x) (den x) u E p (unit-positive u (omega arith) (omega arith)) (own-value x p) (unit-value u (omega arith)) r in
+            whole-is x v p (omega (arith, y, mul-right-comm v E (den x))) (scaled v (num x) (den x) (den-pos x) z) (omega arith) (omega arith)
+            ∙ omega arith
+
+    pub floor-is : wholeWithin e x ≡ answer
+    floor-is = ap wholeOf (brought-is x) ∙ first (lt lo x) refl
       where
-        stays : n < (high + 4096) * d → ⊥
-        stays g =
-            let k = high + 4096 in
-            let u = before k in
-            let w = before-value k (omega arith) (omega arith) in
-            let q = positive-of-value u (k * E - 1) E w (omega arith) in
-            let l : T (le top t) = not-lt t top (round-plain binary64 n d) (round-plain binary64 (high + 4096) 1) e in
-            let m = under k (omega arith) g in
-            let p = between top t u (end-positive high h) q l m in
-            no-gap (num t) ((k * E - 1) * den t) (k * den t) (den t)
-            (values-of-le t u (num t) (den t) (k * E - 1) E p q (own-value t p) w m)
-            (before-times k (den t) (omega arith))
-            (le-trans (values-of-le top t k 1 (num t) (den t) (end-positive high h) p (float-value k (omega arith)) (own-value t p) l) (le-of-eq (mul-one (num t))))
-            (den-pos t)
+        -- not above the first, and not below the last
+        small : lt lo x ≡ false → low ≡ answer
+        small f =
+            let g : n / d < low + 4097 = div-lt-iff-lt-mul d0 .1 (lt-of-not-le (λ (g : (low + 4097) * d ≤ n). true≢false (sym (from (low + 4097) g F (omega arith) (omega (arith, step-le)) (omega (arith, step-le))) ∙ f))) in
+            omega arith
 
-    pub floor-is : wholeWithin low high t ≡ answer
-    unfolding wholeWithin
-    floor-is = first (lt bottom t) refl
-      where
-        third : (b : Bool) → lt t top ≡ b → lt bottom t ≡ true → wholeOf (within bottom top t) ≡ answer
-        third true e f =
-            ap wholeOf (within-same bottom top t f e)
-            ∙ inside (not-lt t bottom (round-plain binary64 n d) (round-plain binary64 (low + 4096) 1) (lt-not bottom t f)) (not-lt top t (round-plain binary64 (high + 4096) 1) (round-plain binary64 n d) (lt-not t top e))
-        third false e f = ap wholeOf (within-high bottom top t f e) ∙ whole-float high h ∙ large e
+        large : lt x hi ≡ false → high ≡ answer
+        large f =
+            let g : high + 4096 ≤ n / d = le-div-iff-mul-le d0 .1 (le-of-suc-le-suc (lt-of-not-le (λ (g : suc n ≤ (high + 4096) * d). true≢false (sym (under (high + 4096) (omega arith) (omega arith) g L (omega arith) (omega arith)) ∙ f)))) in
+            omega arith
 
-        first : (b : Bool) → lt bottom t ≡ b → wholeOf (within bottom top t) ≡ answer
-        first true e = third (lt t top) refl e
-        first false e = ap wholeOf (within-low bottom top t e) ∙ lower low high lh h ∙ small e
+        -- above the first, and below the last
+        least : lt lo x ≡ true → K * d ≤ n
+        least f = le-of-suc-le-suc (lt-of-not-le (λ (g : suc n ≤ K * d). true≢false (sym (under K (omega arith) (omega arith) g F (omega arith) (omega (arith, step-le))) ∙ lt-not lo x f)))
+
+        most : lt x hi ≡ true → n < M * d
+        most f = lt-of-not-le (λ (g : M * d ≤ n). true≢false (sym (high-out g) ∙ lt-not x hi f))
+
+        third : (b : Bool) → lt x hi ≡ b → lt lo x ≡ true → wholeOf (within lo hi x) ≡ answer
+        third true f g = ap wholeOf (within-same lo hi x g f) ∙ inside (least g) (most f)
+        third false f g = ap wholeOf (within-high lo hi x g f) ∙ high-whole ∙ large f
+
+        first : (b : Bool) → lt lo x ≡ b → wholeOf (within lo hi x) ≡ answer
+        first true f = third (lt x hi) refl f
+        first false f = ap wholeOf (brought-low lo hi lo-positive hi-positive ordered x f) ∙ low-whole ∙ small f
 
 -- ---- of a float that is a rounded fraction, or, where the fraction is cut at 0, below every number above zero
 abbrev pub Rounded : Float → ℕ → ℕ → Type 0
 Rounded t a d = (t ≡ round binary64 false a d) ⊎ ((a ≡ 0) × ((y : Float) → T (positive y) → lt t y ≡ true))
 
--- what is below the bottom is brought to it
-pub below-low : (t : Float) (low high : ℕ) → low ≤ high → high ≤ 4095 → lt t (end low) ≡ true → wholeWithin low high t ≡ low
-unfolding wholeWithin
-below-low t low high lh h e = ap wholeOf (within-low (end low) (end high) t (lt-not t (end low) e)) ∙ lower low high lh h
+module _ (e : Ends) (order : e .low ≤ e .high) (top : e .high ≤ 4095) (t : Float) (a d : ℕ) (D : 0 < d) (apart : Apart a d) where
+  pub rounded-floor : Rounded t a d → wholeWithin e t ≡ bounded (e .low) (e .high) (a / d - 4096)
+  rounded-floor (inl f) = ap (wholeWithin e) f ∙ floor-is e order top a d D apart
+  rounded-floor (inr g) =
+      let z : a / d ≡ 0 = ap (λ (x : ℕ). x / d) (g .0) ∙ div-eq-of-lt D in
+      whole-below e order top t (g .1) ∙ omega arith
 
-pub rounded-floor : (t : Float) (a d low high : ℕ) → 0 < d → Apart a d → low ≤ high → high ≤ 4095 → Rounded t a d → wholeWithin low high t ≡ bounded low high (a / d - 4096)
-rounded-floor t a d low high D p lh h (inl e) = ap (wholeWithin low high) e ∙ floor-is a d D p low high lh h
-rounded-floor t a d low high D p lh h (inr g) =
-    let z : a / d ≡ 0 = ap (λ (x : ℕ). x / d) (g .0) ∙ div-eq-of-lt D in
-    below-low t low high lh h (g .1 (end low) (end-positive low (omega arith))) ∙ omega arith
+  pub rounded-cut : Rounded t a d → cutWithin e t ≡ outside (e .strict) (e .low) (e .high) a d
+  rounded-cut (inl f) = ap (cutWithin e) f ∙ cut-is e order top a d D apart
+  rounded-cut (inr g) =
+      cut-below e order top t (g .1)
+      ∙ sym (ap (λ (z : Bool). z || leb ((e .high + 4097) * d) a) (lt-ltb a ((e .low + 4096) * d + cond (e .strict) 1 0) (omega (arith, g .0, add-mul (e .low) 4096 d))))
 
--- no whole number lies nearer above a fraction than one over its divisor
+  pub rounded-clamp : Rounded t a d → clampedWithin e t ≡ record { code = bounded (e .low) (e .high) (a / d - 4096); cut = outside (e .strict) (e .low) (e .high) a d }
+  unfolding clampedBy
+  rounded-clamp r = λ i. record { code = rounded-floor r i; cut = rounded-cut r i }
+
+-- no whole number lies nearer to a fraction, but itself, than one over its divisor
 pub apart-small : (n d : ℕ) → d ≤ 1099511627776 → Apart n d
-apart-small n d h k l = omega arith
+apart-small n d h = record { above = λ k l. omega arith; below = λ k l. omega arith }
 
 -- ---- 4096 more, and 4096 less
 pub more : (x k d : ℕ) → 0 < d → (x + k * d) / d - k ≡ x / d

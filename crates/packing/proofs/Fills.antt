@@ -82,10 +82,6 @@ module _ (l : Layout) (ok : validLayout l ≡ true) (cs out : List ℕ) (n : ℕ
       let r = has i 1 xs (omega arith) (f .long) in
       bytes-more l cs out xs _ i v (l .bytes) refl g (omega arith) (rw (sym (f .long)) (rw add-zero at (point-fits (l .bytes) i 1 (length xs) r 0 (lit< tt)))) f (stop _ (fit-is (l .bytes) i 1 (length xs) r))
 
-  -- fewer of them
-  pub fewer : (xs : List ℕ) {i j : ℕ} → j ≤ i → Upto i xs → Upto j xs
-  fewer xs {i} {j} h f = record { long = f .long; begins = λ d k p. f .begins d k (omega (arith, mul-le-mul-left {m = j} {n = i} (l .bytes) h)) }
-
 -- three codes that fit, joined
 pub join-is : (l : Layout) → validLayout l ≡ true → (a b c : ℕ) → a < 2 ^ l .depth → b < 2 ^ l .depth → c < 2 ^ l .depth → joinedBits l a b c ≡ inPlace l a b c
 unfolding joinedBits

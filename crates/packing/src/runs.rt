@@ -16,7 +16,7 @@ fn points_fit(size: usize, i: usize, count: usize, bytes: usize) -> bool
     size * (i + count) <= bytes
 }
 
-// Stores the numbers of the last eight points of a line: two of them byte by byte, so that nothing falls beyond it.
+// Stores the numbers of eight points that fewer than two follow: the last two byte by byte, so that nothing falls beyond the line.
 fn store_last(out: &mut [u8], size: usize, i: usize, v: [u64; 8])
     ensures { λ _. ⌜ now (out .exit) ≡ storedLast size v i (now (out .entry)) ⌝ }
 {

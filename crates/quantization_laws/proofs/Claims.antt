@@ -9,7 +9,8 @@ use lib.Dec.{ltb}
 use lib.IntN.{ℤ, pos, _-ℤ_, _*ℤ_}
 use lib.Ieee.{Float}
 use Rattle.lists.proofs.Tests.{and-left, and-right, pass}
-use Rattle.fractions.specs.Fraction.{Fraction, bounded, clamp}
+use Rattle.fractions.specs.declared.Clamped.{Clamped}
+use Rattle.fractions.specs.Fraction.{Fraction, clamped}
 use Rattle.fractions.proofs.Integers.{as-pos, times-right, same-sums}
 use Rattle.layout.specs.declared.range.Range.{Range}
 use Rattle.layout.specs.declared.kind.Kind.{Kind}
@@ -26,11 +27,11 @@ use Rattle.scales.specs.Value.{fractionOf, valueOf}
 use Rattle.quantization.specs.Code.{codeOfValue, codeOf}
 use Rattle.scales.specs.Channel.{channelKnownAt, channelScale}
 use Rattle.quantization.specs.Answer.{named, dequantized, orRefused, quantized}
-use Rattle.scales.proofs.Scales.{ends}
-use Rattle.quantization_laws.specs.Claims.{Dequantizes, Quantizes, QuantizesOthers, QuantizesWithinEnds, ZeroIsPlus, Returns, ReturnsEvery, ReturnsExcluded}
-use Rattle.quantization_laws.specs.Printed.{printedValue, printedUnclamped, printedLow, printedHigh, WithinEnds}
+use Rattle.scales.proofs.Scales.{ends, fine}
+use Rattle.quantization_laws.specs.Claims.{Dequantizes, Quantizes, QuantizesOthers, QuantizesWithinEnds, CutsToAnEnd, ZeroIsPlus, Returns, ReturnsEvery, ReturnsExcluded}
+use Rattle.quantization_laws.specs.Printed.{printedValue, printedUnclamped, printedLow, printedHigh}
 use Rattle.quantization_laws.specs.Pattern.{patternValue}
-use Rattle.quantization_laws.proofs.Printed.{value-printed, printed-over, unclamped-printed, ends-printed, within-ends, code-within, excluded-end}
+use Rattle.quantization_laws.proofs.Printed.{value-printed, printed-over, unclamped-printed, ends-printed, Kept, code-kept, included-code, excluded-code}
 use Rattle.quantization_laws.proofs.Pattern.{pattern-code}
 use Rattle.quantization_laws.proofs.Return.{code-returns}
 use Rattle.quantization_laws.proofs.Nearest.{code-nearest, zero-plus}
@@ -56,12 +57,12 @@ says model range n channel e =
     }
 
 -- the code of a value, as printed
-code-printed : (r : Range) (k : Kind) (n : ℕ) (v : Fraction) → depthKnown n ≡ true → Steps n → codeOfValue (scaleOf r n k) v ≡ clamp (printedLow r n) (printedHigh r n) (printedUnclamped r k n v)
+code-printed : (r : Range) (k : Kind) (n : ℕ) (v : Fraction) → depthKnown n ≡ true → Steps n → codeOfValue (scaleOf r n k) v ≡ clamped (printedLow r n) (printedHigh r n) (printedUnclamped r k n v)
 unfolding codeOfValue
 code-printed r k n v d s =
     let e = ends r k n in
     let f = ends-printed n d r in
-    (λ i. clamp ((e .0 ∙ f .0) i) ((e .1 ∙ f .1) i) (unclamped-printed r k n v s i))
+    (λ i. clamped ((e .0 ∙ f .0) i) ((e .1 ∙ f .1) i) (unclamped-printed r k n v s i))
 
 pub dequantizes : Dequantizes
 unfolding dequantized
@@ -80,27 +81,38 @@ unfolding quantized
 quantizes model range n channel bits e h =
     let d = says model range n channel e in
     pass _ (ap not e)
-    (ap orRefused (pattern-code (channelScale model range n channel) bits h)
+    (ap orRefused (pattern-code (channelScale model range n channel) (fine (rangeOf range) (kindOf model channel) n (d .stepped) .zero) bits h)
     ∙ ap Code (code-printed (rangeOf range) (kindOf model channel) n (patternValue bits) (d .depth-known) (d .stepped)))
+
+-- a code that was cut
+abbrev cutAt : ℕ → Quantized
+cutAt c = Code (record { code = c; cut = true })
 
 pub quantizes-others : QuantizesOthers
 unfolding quantized codeOf
 quantizes-others model range n channel e =
     let q = ends (rangeOf range) (kindOf model channel) n in
     let f = ends-printed n (says model range n channel e .depth-known) (rangeOf range) in
-    (pass _ (ap not e) (ap Code (q .1 ∙ f .1)), pass _ (ap not e) (ap Code (q .0 ∙ f .0)), pass _ (ap not e) refl)
+    (pass _ (ap not e) (ap cutAt (q .1 ∙ f .1)), pass _ (ap not e) (ap cutAt (q .0 ∙ f .0)), pass _ (ap not e) refl)
 
-pub quantizes-within-ends : QuantizesWithinEnds
+-- what quantizing answers was clamped to the ends
+answer-kept : (model range n channel : ℕ) (v : Float) (c : Clamped) → quantized model range n channel v ≡ Code c → Kept (printedLow (rangeOf range) n) (printedHigh (rangeOf range) n) c
 unfolding quantized
-quantizes-within-ends model range n channel c v e = go (channelKnownAt model range n channel) refl e
+answer-kept model range n channel v c e = go (channelKnownAt model range n channel) refl e
   where
     coded : (x : Coded) → orRefused x ≡ Code c → x ≡ Found c
     coded (Found d) e = cc
     coded NotANumber e = let z : _≡_ {A = ℕ} 0 1 = cc in absurd (omega arith)
 
-    go : (t : Bool) → channelKnownAt model range n channel ≡ t → cond (not t) (NoCode 9) (orRefused (codeOf (channelScale model range n channel) v)) ≡ Code c → WithinEnds (rangeOf range) n c
+    go : (t : Bool) → channelKnownAt model range n channel ≡ t → cond (not t) (NoCode 9) (orRefused (codeOf (channelScale model range n channel) v)) ≡ Code c → Kept (printedLow (rangeOf range) n) (printedHigh (rangeOf range) n) c
     go false k e = let z : _≡_ {A = ℕ} 0 1 = cc in absurd (omega arith)
-    go true k e = code-within n (says model range n channel k .depth-known) (rangeOf range) (kindOf model channel) v c (coded (codeOf (channelScale model range n channel) v) e)
+    go true k e = code-kept n (says model range n channel k .depth-known) (rangeOf range) (kindOf model channel) v c (coded (codeOf (channelScale model range n channel) v) e)
+
+pub quantizes-within-ends : QuantizesWithinEnds
+quantizes-within-ends model range n channel v c e = answer-kept model range n channel v c e .within
+
+pub cuts-to-an-end : CutsToAnEnd
+cuts-to-an-end model range n channel v c e = answer-kept model range n channel v c e .cut
 
 pub zero-is-plus : ZeroIsPlus
 unfolding dequantized
@@ -129,7 +141,7 @@ told Difference v w e = cc
 pub record Back (range n c : ℕ) (answer : Quantized) : Type 0 where
   pub known : Says n
   pub small : c ≤ topOf n
-  pub clamped : answer ≡ Code (bounded (printedLow (rangeOf range) n) (printedHigh (rangeOf range) n) c)
+  pub back : answer ≡ Code (clamped (printedLow (rangeOf range) n) (printedHigh (rangeOf range) n) (pos c))
 
 comes-back : (model range n channel c : ℕ) (v : Float) → dequantized model range n channel c ≡ named (kindOf model channel) v → Back range n c (quantized model range n channel v)
 unfolding dequantized quantized
@@ -147,21 +159,20 @@ comes-back model range n channel c v e = go (channelKnownAt model range n channe
         record {
           known = d;
           small = h;
-          clamped = ap (λ (x : Float). orRefused (codeOf (channelScale model range n channel) x)) (sym (told (kindOf model channel) (valueOf (channelScale model range n channel) c) v e))
+          back = ap (λ (x : Float). orRefused (codeOf (channelScale model range n channel) x)) (sym (told (kindOf model channel) (valueOf (channelScale model range n channel) c) v e))
               ∙ ap orRefused (code-returns (rangeOf range) (kindOf model channel) n c (d .least) (d .most) h)
-              ∙ ap₂ (λ (x y : ℕ). Code (bounded x y c)) (f .0) (f .1);
+              ∙ ap₂ (λ (x y : ℕ). Code (clamped x y (pos c))) (f .0) (f .1);
         }
 
 pub returns : Returns
-returns model range n channel c v e = comes-back model range n channel c v e .clamped
+returns model range n channel c v e = comes-back model range n channel c v e .back
 
 pub returns-every : ReturnsEvery
 returns-every model range n channel c v e x =
     let b = comes-back model range n channel c v e in
-    let w = within-ends n (b .known .depth-known) (rangeOf range) c (b .small) x in
-    b .clamped ∙ ap Code (omega (arith, w))
+    b .back ∙ ap Code (included-code n (b .known .depth-known) (rangeOf range) c (b .small) x)
 
 pub returns-excluded : ReturnsExcluded
 returns-excluded model range n channel c v e x =
     let b = comes-back model range n channel c v e in
-    b .clamped ∙ ap Code (excluded-end n (b .known .depth-known) (rangeOf range) c x)
+    b .back ∙ ap Code (excluded-code n (b .known .depth-known) (rangeOf range) c x)

@@ -1,14 +1,16 @@
 -- Each line as printed is the one definition, at that range and kind. Assumes nothing.
 use mathlib.Core.Path.{_≡_, refl, sym, ap, ap₂, _∙_, subst}
-use mathlib.Core.Bool.{Bool, true, false, cond, not, _&&_, true≢false}
-use borrow.Author.Tests.{leb-true, leb-false, ltb-true, ltb-false, le-leb, not-false}
+use mathlib.Core.Bool.{Bool, true, false, cond, not, _&&_, _||_, true≢false}
+use mathlib.Core.Logic.{_⊎_, inl, inr}
+use borrow.Author.Tests.{leb-true, leb-false, ltb-true, ltb-false, lt-ltb, le-ltb, le-leb, not-false}
 use lib.Dec.{eqb, leb, ltb, lit≤}
 use Prim.Native.Nat.{ℕ, _+_, _-_, _*_, _^_, _≤_, _<_}
 use native.Mathlib.Nat.{mul-comm, mul-assoc, zero-mul}
 use native.Mathlib.Omega.{arith}
 use lib.Ieee.{Float, nan, inf, fin}
 use lib.IntN.{ℤ, pos, negsuc, _+ℤ_, _*ℤ_, +ℤ-idr}
-use Rattle.fractions.specs.Fraction.{Fraction, _over_, Same, _·_, _⊕_, _⊞_, plusHalf, quotient, floor, halfUp, halfAway, bounded, clamp}
+use Rattle.fractions.specs.declared.Clamped.{Clamped}
+use Rattle.fractions.specs.Fraction.{Fraction, _over_, Same, _·_, _⊕_, _⊞_, plusHalf, quotient, floor, halfUp, halfAway, bounded, clamped}
 use Rattle.fractions.proofs.Integers.{as-difference, same, times, times-right, times-times, times-plus, plus-pos}
 use Rattle.fractions.proofs.Floor.{floor-double}
 use Rattle.lists.proofs.Tests.{and-left, and-right}
@@ -90,6 +92,37 @@ unclamped-printed Full Difference n v s = refl
 unclamped-printed LegacyFull Brightness n v s = ap halfUp (no-base (2 ^ n · v))
 unclamped-printed LegacyFull Difference n v s = half-shifted (2 ^ n) (2 ^ (n - 1)) (twice n s) (v .den) (v .num)
 
+-- what a clamp makes: a code within the ends, and one of them if it was cut
+pub record Kept (low high : ℕ) (c : Clamped) : Type 0 where
+  pub within : (low ≤ c .code) × (c .code ≤ high)
+  pub cut : c .cut ≡ true → (c .code ≡ low) ⊎ (c .code ≡ high)
+
+kept : (low high : ℕ) → low ≤ high → (z : ℤ) → Kept low high (clamped low high z)
+kept low high h (negsuc m) = record { within = omega arith; cut = λ t. inl refl }
+kept low high h (pos m) = record { within = omega arith; cut = go (ltb m low) refl }
+  where
+    go : (t : Bool) → ltb m low ≡ t → t || ltb high m ≡ true → (bounded low high m ≡ low) ⊎ (bounded low high m ≡ high)
+    go true e t = inl (omega (arith, ltb-true m low e))
+    go false e t = inr (omega (arith, ltb-true high m t))
+
+-- of a code, within them and outside
+uncut : (low high c : ℕ) → low ≤ c → c ≤ high → clamped low high (pos c) ≡ record { code = c; cut = false }
+uncut low high c l h =
+    let code : bounded low high c ≡ c = omega arith in
+    let cut = ap₂ (λ (s t : Bool). s || t) (le-ltb c low l) (le-ltb high c h) in
+    λ i. record { code = code i; cut = cut i }
+
+cut-end : (low high c : ℕ) → low ≤ high → (low ≤ c → high < c) → clamped low high (pos c) ≡ record { code = cond (ltb c low) low high; cut = true }
+cut-end low high c o above = go (ltb c low) refl
+  where
+    go : (t : Bool) → ltb c low ≡ t → _≡_ {A = Clamped} (record { code = bounded low high c; cut = t || ltb high c }) (record { code = cond t low high; cut = true })
+    go true q = let code : bounded low high c ≡ low = omega (arith, ltb-true c low q) in ap (λ (x : ℕ). record { code = x; cut = true }) code
+    go false q =
+        let h = above (ltb-false c low q) in
+        let code : bounded low high c ≡ high = omega arith in
+        let cut = lt-ltb high c h in
+        λ i. record { code = code i; cut = cut i }
+
 -- the ends, and with them which codes lie outside, depth by depth
 module _ (n : ℕ) (d : depthKnown n ≡ true) where
   by-depth : (P : ℕ → Type 0) → P 8 → P 10 → P 12 → P n
@@ -141,30 +174,35 @@ module _ (n : ℕ) (d : depthKnown n ≡ true) where
   ordered Full = omega arith
   ordered LegacyFull = omega arith
 
-  -- what is clamped to them lies within
-  clamped-within : (r : Range) (z : ℤ) → WithinEnds r n (clamp (printedLow r n) (printedHigh r n) z)
-  clamped-within r (pos m) = omega (arith, ordered r)
-  clamped-within r (negsuc m) = omega (arith, ordered r)
-
-  pub value-within : (r : Range) (k : Kind) (v : Fraction) → WithinEnds r n (codeOfValue (scaleOf r n k) v)
+  -- a value's code lies within them, and is one of them if it was cut
+  pub value-kept : (r : Range) (k : Kind) (v : Fraction) → Kept (printedLow r n) (printedHigh r n) (codeOfValue (scaleOf r n k) v)
   unfolding codeOfValue
-  value-within r k v =
+  value-kept r k v =
       let sc = scaleOf r n k in
       let e = ends r k n in
       let f = ends-printed r in
-      subst (WithinEnds r n) (λ i. clamp (sym (e .0 ∙ f .0) i) (sym (e .1 ∙ f .1) i) (unclamped sc v)) (clamped-within r (unclamped sc v))
+      subst (Kept (printedLow r n) (printedHigh r n)) (λ i. clamped (sym (e .0 ∙ f .0) i) (sym (e .1 ∙ f .1) i) (unclamped sc v)) (kept (printedLow r n) (printedHigh r n) (ordered r) (unclamped sc v))
 
-  pub code-within : (r : Range) (k : Kind) (v : Float) (c : ℕ) → codeOf (scaleOf r n k) v ≡ Code c → WithinEnds r n c
+  pub value-within : (r : Range) (k : Kind) (v : Fraction) → WithinEnds r n (codeOfValue (scaleOf r n k) v .code)
+  value-within r k v = value-kept r k v .within
+
+  pub code-kept : (r : Range) (k : Kind) (v : Float) (c : Clamped) → codeOf (scaleOf r n k) v ≡ Code c → Kept (printedLow r n) (printedHigh r n) c
   unfolding codeOf
-  code-within r k nan c e = let z : _≡_ {A = ℕ} 0 1 = cc in absurd (omega arith)
-  code-within r k (inf false) c e = let d : scaleOf r n k .high ≡ c = cc in omega (arith, d, ends r k n, ends-printed r, ordered r)
-  code-within r k (inf true) c e = let d : scaleOf r n k .low ≡ c = cc in omega (arith, d, ends r k n, ends-printed r, ordered r)
-  code-within r k (fin s m x) c e = let d : codeOfValue (scaleOf r n k) (exact s m x) ≡ c = cc in subst (WithinEnds r n) d (value-within r k (exact s m x))
+  code-kept r k nan c e = let z : _≡_ {A = ℕ} 0 1 = cc in absurd (omega arith)
+  code-kept r k (inf false) c e =
+      let d : _≡_ {A = Clamped} (record { code = scaleOf r n k .high; cut = true }) c = cc in
+      let h : c .code ≡ printedHigh r n = sym (ap (λ (x : Clamped). x .code) d) ∙ ends r k n .1 ∙ ends-printed r .1 in
+      record { within = omega (arith, ordered r); cut = λ t. inr h }
+  code-kept r k (inf true) c e =
+      let d : _≡_ {A = Clamped} (record { code = scaleOf r n k .low; cut = true }) c = cc in
+      let h : c .code ≡ printedLow r n = sym (ap (λ (x : Clamped). x .code) d) ∙ ends r k n .0 ∙ ends-printed r .0 in
+      record { within = omega (arith, ordered r); cut = λ t. inl h }
+  code-kept r k (fin s m x) c e = let d : codeOfValue (scaleOf r n k) (exact s m x) ≡ c = cc in subst (Kept (printedLow r n) (printedHigh r n)) d (value-kept r k (exact s m x))
 
-  -- so that clamped one that is left out is the nearer end
-  pub excluded-end : (r : Range) (c : ℕ) → excluded r n c ≡ true → bounded (printedLow r n) (printedHigh r n) c ≡ nearerEnd r n c
-  excluded-end r c e = go (ltb c (printedLow r n)) refl
-    where
-      go : (t : Bool) → ltb c (printedLow r n) ≡ t → bounded (printedLow r n) (printedHigh r n) c ≡ cond t (printedLow r n) (printedHigh r n)
-      go true q = omega (arith, ltb-true c (printedLow r n) q, ordered r)
-      go false q = omega (arith, above-ends r c e (ltb-false c (printedLow r n) q), ordered r)
+  -- a code that is not left out is as it was,
+  pub included-code : (r : Range) (c : ℕ) → c ≤ topOf n → excluded r n c ≡ false → clamped (printedLow r n) (printedHigh r n) (pos c) ≡ record { code = c; cut = false }
+  included-code r c h e = let w = within-ends r c h e in uncut (printedLow r n) (printedHigh r n) c (w .0) (w .1)
+
+  -- and one that is left out is cut to the nearer end
+  pub excluded-code : (r : Range) (c : ℕ) → excluded r n c ≡ true → clamped (printedLow r n) (printedHigh r n) (pos c) ≡ record { code = nearerEnd r n c; cut = true }
+  excluded-code r c e = cut-end (printedLow r n) (printedHigh r n) c (ordered r) (above-ends r c e)

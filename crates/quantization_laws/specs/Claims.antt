@@ -1,10 +1,12 @@
--- What is claimed of one value: demand 2, in the terms of document 01 and requests A1 and A2, of the definitions that the entries' contracts cite. proofs/Claims.antt proves each. Assumes nothing.
+-- What is claimed of one value: demand 2, in the terms of document 01 and requests A1, A2 and A4, of the definitions that the entries' contracts cite. proofs/Claims.antt proves each. Assumes nothing.
 use Prim.Native.Nat.{ℕ, _≤_, _<_}
 use mathlib.Core.Bool.{true, false}
 use mathlib.Core.Path.{_≡_}
+use mathlib.Core.Logic.{_⊎_}
 use lib.IntN.{pos}
 use lib.Ieee.{Float, nan, inf, fin, binary32, ofBits}
-use Rattle.fractions.specs.Fraction.{bounded, clamp}
+use Rattle.fractions.specs.declared.Clamped.{Clamped}
+use Rattle.fractions.specs.Fraction.{clamped}
 use Rattle.layout.specs.Layout.{rangeOf, kindOf, topOf}
 use Rattle.refusal.specs.Refusal.{notANumber}
 use Rattle.quantization.specs.declared.Quantized.the-variants.{Code, Refused}
@@ -20,24 +22,30 @@ Dequantizes =
     (model range n channel c : ℕ) → channelKnownAt model range n channel ≡ true → c ≤ topOf n
     → (v : Float) × (dequantized model range n channel c ≡ named (kindOf model channel) v) × NearestTo (printedValue (rangeOf range) (kindOf model channel) n c) v
 
--- a finite float becomes the number in the paper's line, of the exact value that the paper reads off its bits, clamped to the paper's ends
+-- a finite float becomes the number in the paper's line, of the exact value that the paper reads off its bits, clamped to the paper's ends; and the answer says whether that number, rounded as the line says, lay outside them (A4)
 abbrev pub Quantizes : Type 0
 Quantizes =
     (model range n channel bits : ℕ) → channelKnownAt model range n channel ≡ true → fieldOf bits < 255
     → let r = rangeOf range in
-    quantized model range n channel (ofBits binary32 bits) ≡ Code (clamp (printedLow r n) (printedHigh r n) (printedUnclamped r (kindOf model channel) n (patternValue bits)))
+    quantized model range n channel (ofBits binary32 bits) ≡ Code (clamped (printedLow r n) (printedHigh r n) (printedUnclamped r (kindOf model channel) n (patternValue bits)))
 
--- plus infinity becomes the higher end, minus infinity the lower, and a NaN is refused by 12
+-- plus infinity becomes the higher end, minus infinity the lower, each cut, and a NaN is refused by 12
 abbrev pub QuantizesOthers : Type 0
 QuantizesOthers =
     (model range n channel : ℕ) → channelKnownAt model range n channel ≡ true
-    → (quantized model range n channel (inf false) ≡ Code (printedHigh (rangeOf range) n))
-    × (quantized model range n channel (inf true) ≡ Code (printedLow (rangeOf range) n))
+    → (quantized model range n channel (inf false) ≡ Code (record { code = printedHigh (rangeOf range) n; cut = true }))
+    × (quantized model range n channel (inf true) ≡ Code (record { code = printedLow (rangeOf range) n; cut = true }))
     × (quantized model range n channel nan ≡ Refused notANumber)
 
 -- no code that quantizing answers lies outside the ends
 abbrev pub QuantizesWithinEnds : Type 0
-QuantizesWithinEnds = (model range n channel c : ℕ) (v : Float) → quantized model range n channel v ≡ Code c → WithinEnds (rangeOf range) n c
+QuantizesWithinEnds = (model range n channel : ℕ) (v : Float) (c : Clamped) → quantized model range n channel v ≡ Code c → WithinEnds (rangeOf range) n (c .code)
+
+-- and a code that was cut is one of them
+abbrev pub CutsToAnEnd : Type 0
+CutsToAnEnd =
+    (model range n channel : ℕ) (v : Float) (c : Clamped) → quantized model range n channel v ≡ Code c → c .cut ≡ true
+    → (c .code ≡ printedLow (rangeOf range) n) ⊎ (c .code ≡ printedHigh (rangeOf range) n)
 
 -- the code of a known channel whose fraction is 0 becomes plus zero
 abbrev pub ZeroIsPlus : Type 0
@@ -46,20 +54,20 @@ ZeroIsPlus =
     → printedValue (rangeOf range) (kindOf model channel) n c .num ≡ pos 0
     → dequantized model range n channel c ≡ named (kindOf model channel) (fin false 0 (pos 0))
 
--- whatever float dequantizing a code answers, quantizing it answers the code, clamped to the ends;
+-- whatever float dequantizing a code answers, quantizing it answers the code, clamped to the ends, and cut exactly if it lies outside them;
 abbrev pub Returns : Type 0
 Returns =
     (model range n channel c : ℕ) (v : Float) → dequantized model range n channel c ≡ named (kindOf model channel) v
-    → quantized model range n channel v ≡ Code (bounded (printedLow (rangeOf range) n) (printedHigh (rangeOf range) n) c)
+    → quantized model range n channel v ≡ Code (clamped (printedLow (rangeOf range) n) (printedHigh (rangeOf range) n) (pos c))
 
--- so every code comes back but those that A1 and A2 leave out,
+-- so every code comes back, and uncut, but those that A1 and A2 leave out,
 abbrev pub ReturnsEvery : Type 0
 ReturnsEvery =
     (model range n channel c : ℕ) (v : Float) → dequantized model range n channel c ≡ named (kindOf model channel) v
-    → excluded (rangeOf range) n c ≡ false → quantized model range n channel v ≡ Code c
+    → excluded (rangeOf range) n c ≡ false → quantized model range n channel v ≡ Code (record { code = c; cut = false })
 
--- which come back as the nearer end
+-- which come back as the nearer end, and cut
 abbrev pub ReturnsExcluded : Type 0
 ReturnsExcluded =
     (model range n channel c : ℕ) (v : Float) → dequantized model range n channel c ≡ named (kindOf model channel) v
-    → excluded (rangeOf range) n c ≡ true → quantized model range n channel v ≡ Code (nearerEnd (rangeOf range) n c)
+    → excluded (rangeOf range) n c ≡ true → quantized model range n channel v ≡ Code (record { code = nearerEnd (rangeOf range) n c; cut = true })

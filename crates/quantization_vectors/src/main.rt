@@ -10,9 +10,9 @@ fn print(text: &[u8]) {
 
 fn print_code(model: u8, range: u8, depth: u8, channel: u8, value: f32) {
     match quantization::quantize(model, range, depth, channel, value) {
-        Quantized::Code(code) => {
+        Quantized::Code(clamped) => {
             print(b" ");
-            io::print_decimal(STDOUT_FILENO, code as u64);
+            io::print_decimal(STDOUT_FILENO, clamped.code as u64);
         }
         Quantized::Refused(number) => {
             print(b" refused ");

@@ -1,6 +1,6 @@
 -- The scales that the code makes, by the depth's step, and those of a layout. Assumes nothing.
 use mathlib.Core.Path.{_≡_, refl, sym, ap, _∙_, subst}
-use mathlib.Core.Bool.{Bool, true, false, cond, _&&_}
+use mathlib.Core.Bool.{Bool, true, false, cond, _&&_, true≢false}
 use Prim.Native.Nat.{ℕ, _+_, _-_, _*_, _/_, _^_, _≤_}
 use native.Mathlib.Omega.{arith}
 use borrow.Author.Tests.{eqb-true}
@@ -78,12 +78,12 @@ ends-le LegacyFull n h = (omega arith, legacy-le n)
 -- every scale of the paper is one that f64 has room for
 pub fine : (r : Range) (k : Kind) (n : ℕ) → Steps n → Fine (scaleOf r n k)
 unfolding scaleOf
-fine Narrow Brightness n h = record { some = omega arith; span = omega arith; base = omega arith; order = omega arith; high = omega arith }
-fine Narrow Difference n h = record { some = omega arith; span = omega arith; base = omega arith; order = omega arith; high = omega arith }
-fine Full Brightness n h = record { some = omega arith; span = omega arith; base = omega arith; order = omega arith; high = omega arith }
-fine Full Difference n h = record { some = omega arith; span = omega arith; base = omega arith; order = omega arith; high = omega arith }
-fine LegacyFull Brightness n h = record { some = omega arith; span = omega arith; base = omega arith; order = omega arith; high = omega (arith, legacy-le n) }
-fine LegacyFull Difference n h = record { some = omega arith; span = omega arith; base = omega arith; order = omega arith; high = omega (arith, legacy-le n) }
+fine Narrow Brightness n h = record { some = omega arith; span = omega arith; base = omega arith; order = omega arith; high = omega arith; zero = λ e. absurd (true≢false (sym e)) }
+fine Narrow Difference n h = record { some = omega arith; span = omega arith; base = omega arith; order = omega arith; high = omega arith; zero = λ e. absurd (true≢false (sym e)) }
+fine Full Brightness n h = record { some = omega arith; span = omega arith; base = omega arith; order = omega arith; high = omega arith; zero = λ e. refl }
+fine Full Difference n h = record { some = omega arith; span = omega arith; base = omega arith; order = omega arith; high = omega arith; zero = λ e. refl }
+fine LegacyFull Brightness n h = record { some = omega arith; span = omega arith; base = omega arith; order = omega arith; high = omega (arith, legacy-le n); zero = λ e. absurd (true≢false (sym e)) }
+fine LegacyFull Difference n h = record { some = omega arith; span = omega arith; base = omega arith; order = omega arith; high = omega (arith, legacy-le n); zero = λ e. absurd (true≢false (sym e)) }
 
 pub fine-known : (model range n channel : ℕ) {sc : Scale} → knownScale model range n channel ≡ AsScale sc → Fine sc
 fine-known model range n channel e =

@@ -6,6 +6,7 @@ mod scale;
 
 pub use channels::LayoutScales;
 pub use channels::Scales;
+pub use code::FloatScale;
 pub use scale::ChannelScale;
 pub use scale::Rounding;
 pub use scale::Scale;

@@ -17,8 +17,8 @@ pub enum Rounding {
 }
 
 // `base` is the code of the value 0, `span` the codes in a unit of value, `top` the highest code, `low` and `high` the ends
-// that the code of a value is clamped to. `rounding` says which of the paper's roundings the definition has; clamped at 0 or
-// above the two give one code, so that the code does not look at it.
+// that the code of a value is clamped to. `rounding` says which of the paper's roundings it has: clamped at 0 or above the two
+// give one code, and only what is cut tells them apart.
 pub struct Scale {
     pub base: u16,
     pub span: u16,

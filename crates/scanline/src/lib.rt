@@ -10,6 +10,7 @@ pub use field::FieldBytes;
 pub use field::FieldCode;
 pub use field::field_bytes;
 pub use field::field_code;
+pub use line::ClampedAnswer;
 pub use line::LineAnswer;
 pub use line::Point;
 pub use packing::pack_line;

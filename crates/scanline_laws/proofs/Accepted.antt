@@ -1,28 +1,16 @@
 -- A line of a valid layout, of no more points than a line may have, is accepted into an output of its own length. Assumes nothing.
-use mathlib.Core.Path.{_≡_, ap, ap₂, _∙_}
-use mathlib.Core.Bool.{true, _&&_}
+use mathlib.Core.Path.{_≡_, ap, _∙_}
 use mathlib.Core.List.{List}
-use Prim.Native.Nat.{ℕ, _*_, _/_, _%_, _≤_, _<_}
-use native.Mathlib.Nat.{mul-comm, mul-div-cancel, mul-mod-left}
+use Prim.Native.Nat.{ℕ, _*_, _≤_}
 use native.Mathlib.Omega.{arith}
-use borrow.Author.Tests.{le-leb, eq-eqb}
 use lib.Dec.{lit<}
 use lib.ListN.{length}
 use Rattle.layout.specs.declared.Layout.{Layout}
 use Rattle.layout.proofs.Facts.{valid-says}
 use Rattle.line.specs.declared.LineAnswer.the-variants.{Points}
 use Rattle.line.specs.Line.{PackedLine, CodeLine}
-use Rattle.line.specs.Answer.{mostPoints, fitting, unpackAnswer, packAnswer}
-use Rattle.line.proofs.Answers.{unpack-points, pack-points}
-
--- per * n elements into each * n
-pub fit : (size per output each n : ℕ) → 0 < per → size ≡ per * n → output ≡ each * n → n ≤ mostPoints → (fitting size per output each ≡ true) × (size / per ≡ n)
-fit size per output each n pos s o h =
-    let e : size ≡ n * per = s ∙ mul-comm per n in
-    let q : size / per ≡ n = ap (λ (x : ℕ). x / per) e ∙ mul-div-cancel n pos in
-    let r : size % per ≡ 0 = ap (λ (x : ℕ). x % per) e ∙ mul-mod-left n per in
-    let whole = ap₂ _&&_ (eq-eqb (size % per) 0 r) (le-leb (size / per) mostPoints (omega arith)) in
-    (ap₂ _&&_ whole (eq-eqb output (each * (size / per)) (o ∙ ap (λ (x : ℕ). each * x) (omega arith))), q)
+use Rattle.line.specs.Answer.{mostPoints, unpackAnswer, packAnswer}
+use Rattle.line.proofs.Answers.{fit, unpack-points, pack-points}
 
 pub packing-accepted : (l : Layout) (n : ℕ) (cs : List ℕ) (bytes : ℕ) → CodeLine l n cs → bytes ≡ l .bytes * n → n ≤ mostPoints → packAnswer l cs bytes ≡ Points n
 packing-accepted l n cs bytes p e h =

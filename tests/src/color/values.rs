@@ -2,7 +2,7 @@
 
 use crate::guarded::{Guarded, Outcome};
 use crate::layouts::RANGES;
-use crate::library::{Conversion, Direction, Library};
+use crate::library::{Conversion, Direction, Library, CUTS};
 use crate::plain::quantization::returned;
 use crate::quantization::scale_of;
 use crate::random::Random;
@@ -31,7 +31,7 @@ pub fn corners(library: &Library, tally: &mut Tally) -> Flow {
 
 /// Three equal R'G'B' codes are the same Y' code with both differences at their
 /// base, and back, if the range stays; but the codes that the range never makes
-/// become its nearer end.
+/// become its nearer end, cut.
 pub fn greys(library: &Library, tally: &mut Tally) -> Flow {
     for depth in DEPTHS {
         let base = 1 << (depth - 1);
@@ -42,8 +42,11 @@ pub fn greys(library: &Library, tally: &mut Tally) -> Flow {
                     let conversion = [primaries, depth, range, range];
                     let [there, back] = DIRECTIONS;
                     let made = returned(scale_of([1, range, depth, 0]), code);
-                    becomes(library, tally, there, conversion, rgb, [made, base, base])?;
-                    becomes(library, tally, back, conversion, ycbcr, [made; 3])?;
+                    let cut = u32::from(made != code);
+                    let grey = ([made, base, base], cut);
+                    becomes(library, tally, (there, conversion), rgb, grey)?;
+                    let grey = ([made; 3], 3 * cut);
+                    becomes(library, tally, (back, conversion), ycbcr, grey)?;
                 }
             }
         }
@@ -51,22 +54,23 @@ pub fn greys(library: &Library, tally: &mut Tally) -> Flow {
     Flow::Continue(())
 }
 
-/// This asks the library alone: the reference has no part in it.
+/// The codes made and the number of cuts. This asks the library alone: the reference has
+/// no part in it.
 fn becomes(
     library: &Library,
     tally: &mut Tally,
-    direction: Direction,
-    conversion: Conversion,
+    (direction, conversion): (Direction, Conversion),
     given: [u16; 3],
-    made: [u16; 3],
+    (made, cuts): ([u16; 3], u32),
 ) -> Flow {
     let mut lent = Guarded::holding(&given);
-    let outcome = Outcome::of(3, |out| {
+    let outcome = Outcome::with_cuts(3, |out| {
         library.convert(direction, conversion, &mut lent, out)
     });
-    let output = outcome.output.elements();
-    tally.compare(output == made, || {
-        format!("{direction:?} {conversion:?}, {given:?}: {output:?}, must be {made:?}")
+    let told = (outcome.output.elements(), outcome.cuts[CUTS]);
+    let must_be = (&made[..], cuts);
+    tally.compare(told == must_be, || {
+        format!("{direction:?} {conversion:?}, {given:?}: {told:?}, must be {must_be:?}")
     })
 }
 

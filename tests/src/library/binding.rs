@@ -9,7 +9,7 @@ use crate::history::replays::{tell, DECODED, READ};
 
 use super::history::Replaying;
 use super::program::stack_list;
-use super::{Convert, Direction, Library, Setting, FLOAT};
+use super::{Convert, Direction, Library, Setting, Slot, CUTS, FLOAT};
 
 pub const BINDING: Library = Library {
     dequantize: |setting, code, slot| {
@@ -18,7 +18,12 @@ pub const BINDING: Library = Library {
             matches!(made, Dequantized::Difference(_)).into()
         })
     },
-    quantize: |setting, value| answer(imurraqi::quantize(channel(setting), value), i64::from),
+    quantize: |setting, value, cuts| {
+        answer(imurraqi::quantize(channel(setting), value), |made| {
+            cuts[CUTS] = made.cut.into();
+            made.code.into()
+        })
+    },
     field_bytes: |layout, channel, out| {
         let layout = Layout::from_bytes(layout);
         answer(imurraqi::field_bytes(layout, channel), |bytes| {
@@ -51,11 +56,13 @@ pub const BINDING: Library = Library {
     },
     encode_line: |layout, values, out| {
         let layout = Layout::from_bytes(layout);
-        count(imurraqi::encode_line(layout, values, out.output()))
+        let answered = imurraqi::encode_line(layout, values, out.output());
+        clamped(answered, &mut out.cuts)
     },
     encode_point: |layout, values, out| {
         let layout = Layout::from_bytes(layout);
-        answer(imurraqi::encode_point(layout, values, out.output()), |()| 1)
+        let answered = imurraqi::encode_point(layout, values, out.output());
+        clamped(answered, &mut out.cuts)
     },
     descriptor_read: |bytes, out| {
         answer(imurraqi::descriptor_read(bytes), |layout| {
@@ -102,7 +109,8 @@ const CONVERT: Convert = |direction, conversion, codes, out| {
         Direction::RgbToYcbcr => imurraqi::rgb_to_ycbcr,
         Direction::YcbcrToRgb => imurraqi::ycbcr_to_rgb,
     };
-    count(convert(conversion, codes.elements(), out.output()))
+    let answered = convert(conversion, codes.elements(), out.output());
+    clamped(answered, &mut out.cuts)
 };
 
 fn replay(asked: &mut Replaying) -> i64 {
@@ -150,6 +158,14 @@ fn accepted(answered: Result<(), Refusal>) -> i64 {
 
 fn count(answered: Result<usize, Refusal>) -> i64 {
     answer(answered, |count| count as i64)
+}
+
+/// With the number of cuts where the C interface writes it.
+fn clamped(answered: Result<imurraqi::Clamped, Refusal>, cuts: &mut Slot) -> i64 {
+    answer(answered, |made| {
+        cuts[CUTS] = made.cuts as u32;
+        made.points as i64
+    })
 }
 
 fn channel([model, range, depth, channel]: Setting) -> imurraqi::Setting {

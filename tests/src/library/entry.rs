@@ -89,7 +89,12 @@ pub static ENTRIES: [Description; 19] = [
         &[9, 14],
         &[Out("value")],
     ),
-    describe(Entry::Quantize, "imurraqi_quantize", &[9, 12], &[]),
+    describe(
+        Entry::Quantize,
+        "imurraqi_quantize",
+        &[9, 12],
+        &[Out("cuts")],
+    ),
     describe(
         Entry::DecodePoint,
         "imurraqi_decode_point",
@@ -106,13 +111,13 @@ pub static ENTRIES: [Description; 19] = [
         Entry::EncodePoint,
         "imurraqi_encode_point",
         &[9, 12, 13],
-        &[In("layout"), Out("out")],
+        &[In("layout"), Out("out"), Out("cuts")],
     ),
     describe(
         Entry::EncodeLine,
         "imurraqi_encode_line",
         &[9, 12, 13],
-        &[In("layout"), In("values"), Out("out")],
+        &[In("layout"), In("values"), Out("out"), Out("cuts")],
     ),
     describe(
         Entry::FieldBytes,
@@ -142,13 +147,13 @@ pub static ENTRIES: [Description; 19] = [
         Entry::RgbToYcbcr,
         "imurraqi_rgb_to_ycbcr",
         &[9, 13, 14],
-        &[In("codes"), Out("out")],
+        &[In("codes"), Out("out"), Out("cuts")],
     ),
     describe(
         Entry::YcbcrToRgb,
         "imurraqi_ycbcr_to_rgb",
         &[9, 13, 14],
-        &[In("codes"), Out("out")],
+        &[In("codes"), Out("out"), Out("cuts")],
     ),
     describe(
         Entry::CardRead,

@@ -2,11 +2,12 @@
 
 use imurraqi::ffi;
 
+use crate::clamped::Clamped;
 use crate::guarded::Guarded;
 
 use super::entry::Entry;
 use super::memory::Memory;
-use super::Layout;
+use super::{whole, Layout};
 
 pub fn unpack_line<M: Memory>(layout: Layout, packed: &[u8], codes: &mut Guarded<u16>) -> i64 {
     let mut memory = M::of(Entry::UnpackLine);
@@ -69,7 +70,7 @@ pub fn decode_point<M: Memory>(layout: Layout, bytes: &[u8], point: &mut Guarded
     memory.answered(answer)
 }
 
-pub fn encode_line<M: Memory>(layout: Layout, values: &[f32], packed: &mut Guarded<u8>) -> i64 {
+pub fn encode_line<M: Memory>(layout: Layout, values: &[f32], packed: &mut Clamped<u8>) -> i64 {
     let mut memory = M::of(Entry::EncodeLine);
     // SAFETY: as for `unpack_line`.
     let answer = unsafe {
@@ -79,12 +80,13 @@ pub fn encode_line<M: Memory>(layout: Layout, values: &[f32], packed: &mut Guard
             values.len(),
             memory.output(packed.whole()),
             packed.length(),
+            memory.output(whole(&mut packed.cuts)),
         )
     };
     memory.answered(answer)
 }
 
-pub fn encode_point<M: Memory>(layout: Layout, values: [f32; 3], packed: &mut Guarded<u8>) -> i64 {
+pub fn encode_point<M: Memory>(layout: Layout, values: [f32; 3], packed: &mut Clamped<u8>) -> i64 {
     let mut memory = M::of(Entry::EncodePoint);
     let [first, second, third] = values;
     // SAFETY: as for `unpack_line`.
@@ -96,6 +98,7 @@ pub fn encode_point<M: Memory>(layout: Layout, values: [f32; 3], packed: &mut Gu
             third,
             memory.output(packed.whole()),
             packed.length(),
+            memory.output(whole(&mut packed.cuts)),
         )
     };
     memory.answered(answer)

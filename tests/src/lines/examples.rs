@@ -2,7 +2,7 @@
 //! and the reference are both compared with them.
 
 use crate::guarded::Outcome;
-use crate::library::{Layout, Library};
+use crate::library::{Layout, Library, CUTS};
 use crate::tally::{Flow, Tally};
 use crate::wrong::REFERENCE;
 
@@ -16,12 +16,14 @@ struct Example {
     packed: &'static [u8],
     /// Bits of no field.
     unused: &'static [u8],
+    /// How many of the values are cut.
+    cuts: u32,
 }
 
 /// The float just under 1/8, namely 1/8 - 2^-27.
 const UNDER_AN_EIGHTH: f32 = 0.125 - 1.0 / 134_217_728.0;
 
-const EXAMPLES: [Example; 9] = [
+const EXAMPLES: [Example; 11] = [
     Example {
         name: "M1, M3, M2, a byte each",
         layout: [2, 1, 1, 8, 3, 0, 8, 16],
@@ -30,6 +32,7 @@ const EXAMPLES: [Example; 9] = [
         decoded: [1.0, 0.5, -0.5],
         packed: &[235, 240, 16],
         unused: &[0, 0, 0],
+        cuts: 0,
     },
     Example {
         name: "M6, M4, M5, a byte each, the last channel first",
@@ -39,6 +42,7 @@ const EXAMPLES: [Example; 9] = [
         decoded: [0.0, 127.0 / 255.0, -127.0 / 255.0],
         packed: &[1, 255, 0, 0],
         unused: &[0, 0, 255, 0],
+        cuts: 2,
     },
     // 173 * 2^20 + 174 * 2^10 + 940 = 0x0ad2bbac.
     Example {
@@ -49,6 +53,7 @@ const EXAMPLES: [Example; 9] = [
         decoded: [109.0 / 876.0, 110.0 / 876.0, 1.0],
         packed: &[0xac, 0xbb, 0xd2, 0x0a],
         unused: &[0, 0, 0, 0xc0],
+        cuts: 0,
     },
     // 4095 * 2^52 + 2048 * 2^12 + 2048 = 0xfff0000000800800.
     Example {
@@ -59,6 +64,7 @@ const EXAMPLES: [Example; 9] = [
         decoded: [1.0, 0.0, 0.0],
         packed: &[0, 8, 0x80, 0, 0, 0, 0xf0, 0xff],
         unused: &[0, 0, 0, 0xff, 0xff, 0xff, 0x0f, 0],
+        cuts: 0,
     },
     // 256 * 0.3 = 76.8; 256 (0.1 + 1/2) = 153.6.
     Example {
@@ -69,6 +75,7 @@ const EXAMPLES: [Example; 9] = [
         decoded: [77.0 / 256.0, -0.5, 26.0 / 256.0],
         packed: &[77, 0, 154],
         unused: &[0, 0, 0],
+        cuts: 0,
     },
     // 4092 is 0xffc: 0xffc * 2^24 + 0xffc * 2^12 + 0x001.
     Example {
@@ -79,6 +86,7 @@ const EXAMPLES: [Example; 9] = [
         decoded: [1.0 / 4096.0, 2044.0 / 4096.0, 2044.0 / 4096.0],
         packed: &[0x01, 0xc0, 0xff, 0xfc, 0x0f],
         unused: &[0, 0, 0, 0, 0xf0],
+        cuts: 2,
     },
     // 16 + 219 * 2 = 454, 128 - 224 = -96.
     Example {
@@ -89,6 +97,7 @@ const EXAMPLES: [Example; 9] = [
         decoded: [238.0 / 219.0, -127.0 / 224.0, 126.0 / 224.0],
         packed: &[254, 1, 254],
         unused: &[0, 0, 0],
+        cuts: 3,
     },
     // 4 (16 + 219 * 1.25) = 1159, 4 (16 - 219 / 4) = -155: 4 * 2^20 + 4 * 2^10 + 1019.
     Example {
@@ -99,6 +108,7 @@ const EXAMPLES: [Example; 9] = [
         decoded: [-60.0 / 876.0, -60.0 / 876.0, 955.0 / 876.0],
         packed: &[0xfb, 0x13, 0x40, 0x00],
         unused: &[0, 0, 0, 0xc0],
+        cuts: 3,
     },
     // 16 (128 + 224 * 0.75) = 4736: 16 * 2^24 + 0xfef * 2^12 + 16, and 4079 is 0xfef.
     Example {
@@ -109,6 +119,30 @@ const EXAMPLES: [Example; 9] = [
         decoded: [-240.0 / 3504.0, 2031.0 / 3584.0, -2032.0 / 3584.0],
         packed: &[0x10, 0xf0, 0xfe, 0x10, 0x00],
         unused: &[0, 0, 0, 0, 0xf0],
+        cuts: 3,
+    },
+    // Each end is its own number, and is not cut.
+    Example {
+        name: "the ends of narrow range by their own values",
+        layout: [2, 1, 1, 8, 3, 0, 8, 16],
+        values: [238.0 / 219.0, -127.0 / 224.0, 126.0 / 224.0],
+        codes: [254, 1, 254],
+        decoded: [238.0 / 219.0, -127.0 / 224.0, 126.0 / 224.0],
+        packed: &[254, 1, 254],
+        unused: &[0, 0, 0],
+        cuts: 0,
+    },
+    // floor(1/2 - 1/2) is 0 and not cut; floor(1/2 - 3/4) is -1 and floor(1/2 + 255.5) is
+    // 256, both cut.
+    Example {
+        name: "half a code beyond the older full range, the last channel first",
+        layout: [1, 3, 3, 8, 3, 16, 8, 0],
+        values: [-0.5 / 256.0, -0.75 / 256.0, 255.5 / 256.0],
+        codes: [0, 0, 255],
+        decoded: [0.0, 0.0, 255.0 / 256.0],
+        packed: &[255, 0, 0],
+        unused: &[0, 0, 0],
+        cuts: 2,
     },
 ];
 
@@ -125,21 +159,23 @@ pub fn worked_out(library: &Library, tally: &mut Tally) -> Flow {
 fn agrees(library: &Library, tally: &mut Tally, program: &str, example: &Example) -> Flow {
     let layout = example.layout;
     let name = example.name;
-    let mut point = Outcome::of(example.packed.len(), |out| {
+    let point = Outcome::with_cuts(example.packed.len(), |out| {
         (library.encode_point)(layout, example.values, out)
     });
-    tally.compare(
-        point.answer == 1 && point.output.output() == example.packed,
-        || format!("{name}, {program}: the point is encoded otherwise"),
-    )?;
+    let told = (point.answer, point.cuts[CUTS], point.output.elements());
+    let must_be = (1, example.cuts, example.packed);
+    tally.compare(told == must_be, || {
+        format!("{name}, {program}: the point is encoded as {told:x?}, must be {must_be:x?}")
+    })?;
     let twice = example.packed.repeat(2);
-    let mut encoded = Outcome::of(twice.len(), |out| {
+    let line = Outcome::with_cuts(twice.len(), |out| {
         (library.encode_line)(layout, &example.values.repeat(2), out)
     });
-    tally.compare(
-        encoded.answer == 2 && encoded.output.output() == twice,
-        || format!("{name}, {program}: the line is encoded otherwise"),
-    )?;
+    let told = (line.answer, line.cuts[CUTS], line.output.elements());
+    let must_be = (2, 2 * example.cuts, &twice[..]);
+    tally.compare(told == must_be, || {
+        format!("{name}, {program}: the line is encoded as {told:x?}, must be {must_be:x?}")
+    })?;
     let mut packed = Outcome::of(twice.len(), |out| {
         (library.pack_line)(layout, &example.codes.repeat(2), out)
     });

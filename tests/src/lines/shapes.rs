@@ -2,7 +2,7 @@
 
 use crate::guarded::Outcome;
 use crate::layouts::{self, bytes_a_point, DEPTH, MODEL, RANGE};
-use crate::library::{Layout, Library};
+use crate::library::{Layout, Library, CUTS};
 use crate::plain::quantization::returned;
 use crate::quantization::scale_of;
 use crate::random::Random;
@@ -58,8 +58,8 @@ pub fn there_and_back(library: &Library, tally: &mut Tally) -> Flow {
 
 /// Any line, decoded and encoded, must come back, its unused bits cleared, as it
 /// does when it is unpacked and packed; but the codes that its range never makes come
-/// back as the nearer end. This too compares the library with itself: on any bytes,
-/// and on two points with many of the greatest code.
+/// back as the nearer end, and are those that are cut. This too compares the library with
+/// itself: on any bytes, and on two points with many of the greatest code.
 pub fn decoded_and_back(library: &Library, tally: &mut Tally) -> Flow {
     let mut random = Random::new();
     for layout in layouts::chosen() {
@@ -72,11 +72,15 @@ pub fn decoded_and_back(library: &Library, tally: &mut Tally) -> Flow {
             let mut codes = Outcome::of(3 * points, |out| {
                 (library.unpack_line)(layout, &packed, out)
             });
-            let codes = coming_back(layout, codes.output.output());
-            let cleared = Outcome::of(packed.len(), |out| (library.pack_line)(layout, &codes, out));
+            let codes = codes.output.output();
+            let nearer = coming_back(layout, codes);
+            let cleared = Outcome::of(packed.len(), |out| {
+                (library.pack_line)(layout, &nearer, out)
+            });
             let back = decoded_and_encoded(library, layout, &packed);
-            tally.compare(back == cleared.output.elements(), || {
-                format!("there and back {layout:?}, {points} points: the bytes differ")
+            let must_be = (cleared.output.elements().to_vec(), moved(codes, &nearer));
+            tally.compare(back == must_be, || {
+                format!("there and back {layout:?}, {points} points: the bytes or cuts differ")
             })?;
         }
     }
@@ -89,20 +93,24 @@ pub fn every_code_back(library: &Library, tally: &mut Tally) -> Flow {
     for layout in layouts::one_of_each_size().flat_map(layouts::on_every_scale) {
         let codes = every_code(layout);
         let packed = packed_by_reference(layout, &codes);
-        let must_be = packed_by_reference(layout, &coming_back(layout, &codes));
+        let nearer = coming_back(layout, &codes);
+        let must_be = (packed_by_reference(layout, &nearer), moved(&codes, &nearer));
         let back = decoded_and_encoded(library, layout, &packed);
         tally.compare(back == must_be, || {
-            format!("there and back {layout:?}, every code: the bytes differ")
+            format!("there and back {layout:?}, every code: the bytes or cuts differ")
         })?;
         let size = bytes_a_point(layout);
-        for (point, must_be) in packed.chunks(size).zip(must_be.chunks(size)) {
+        let cuts = codes.chunks(3).zip(nearer.chunks(3));
+        let cuts = cuts.map(|(codes, nearer)| moved(codes, nearer));
+        let must_be = must_be.0.chunks(size).zip(cuts);
+        for (point, must_be) in packed.chunks(size).zip(must_be) {
             let there = Outcome::of(3, |out| (library.decode_point)(layout, point, out));
             let [first, second, third] = there.output.elements() else {
                 unreachable!("a point has three floats");
             };
             let values = [first, second, third].map(|&bits| f32::from_bits(bits));
-            let back = Outcome::of(size, |out| (library.encode_point)(layout, values, out));
-            let back = back.output.elements();
+            let back = Outcome::with_cuts(size, |out| (library.encode_point)(layout, values, out));
+            let back = (back.output.elements(), back.cuts[CUTS]);
             tally.compare(back == must_be, || {
                 format!("there and back {layout:?}, {point:x?}: {back:x?}, must be {must_be:x?}")
             })?;
@@ -118,7 +126,14 @@ fn coming_back(layout: Layout, codes: &[u16]) -> Vec<u16> {
     codes.iter().map(|&code| returned(scale, code)).collect()
 }
 
-fn decoded_and_encoded(library: &Library, layout: Layout, packed: &[u8]) -> Vec<u8> {
+/// How many of the codes came back as others: so many were cut.
+fn moved(codes: &[u16], nearer: &[u16]) -> u32 {
+    let moved = codes.iter().zip(nearer).filter(|(code, made)| code != made);
+    moved.count() as u32
+}
+
+/// The bytes, and how many values were cut.
+fn decoded_and_encoded(library: &Library, layout: Layout, packed: &[u8]) -> (Vec<u8>, u32) {
     let elements = packed.len() / bytes_a_point(layout) * 3;
     let there = Outcome::of(elements, |out| (library.decode_line)(layout, packed, out));
     let values: Vec<f32> = there
@@ -127,10 +142,10 @@ fn decoded_and_encoded(library: &Library, layout: Layout, packed: &[u8]) -> Vec<
         .iter()
         .map(|&bits| f32::from_bits(bits))
         .collect();
-    let back = Outcome::of(packed.len(), |out| {
+    let back = Outcome::with_cuts(packed.len(), |out| {
         (library.encode_line)(layout, &values, out)
     });
-    back.output.elements().to_vec()
+    (back.output.elements().to_vec(), back.cuts[CUTS])
 }
 
 fn packed_by_reference(layout: Layout, codes: &[u16]) -> Vec<u8> {

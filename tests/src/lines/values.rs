@@ -74,10 +74,10 @@ pub fn not_a_numbers(library: &Library, tally: &mut Tally) -> Flow {
     compare_at_places(library, tally, &NOT_A_NUMBERS.map(f32::from_bits))
 }
 
-/// Infinities, the largest finite floats, and the smallest.
+/// Infinities, the largest finite floats, the smallest, and both zeros.
 pub fn infinities(library: &Library, tally: &mut Tally) -> Flow {
     let least = f32::from_bits(1);
-    let magnitudes = [f32::INFINITY, f32::MAX, least];
+    let magnitudes = [f32::INFINITY, f32::MAX, least, 0.0];
     compare_at_places(library, tally, &magnitudes)?;
     compare_at_places(library, tally, &magnitudes.map(|value| -value))
 }

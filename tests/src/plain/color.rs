@@ -1,14 +1,15 @@
 //! Colors in whole numbers: numerators over one denominator, and for G' the
 //! formula into which document 003 has put those for R' and B'.
 
-use reference::quantization::Scale;
+use reference::quantization::{Range, Scale};
 use reference::refusal::Refusal;
 
+use crate::clamped::Clamped;
 use crate::guarded::Guarded;
-use crate::library::{Conversion, Direction};
+use crate::library::{Conversion, Direction, CUTS};
 use crate::quantization::{refused, scale_of};
 
-use super::quantization::{ends, line, Ends, Line};
+use super::quantization::{all, ends, line, outside, Count, Cut, Ends, Line};
 
 /// One, in ten-thousandths.
 pub const ONE: i128 = 10_000;
@@ -26,8 +27,10 @@ pub struct Pieces {
     pub line: Line,
     pub ycbcr: Formulas,
     pub rgb: Formulas,
-    pub round: fn(Ratio) -> i128,
+    pub round: fn(Scale, Ratio) -> i128,
     pub ends: Ends,
+    pub cut: Cut,
+    pub count: Count,
 }
 
 pub const PIECES: Pieces = Pieces {
@@ -35,8 +38,10 @@ pub const PIECES: Pieces = Pieces {
     line,
     ycbcr,
     rgb,
-    round: half_up,
+    round: rounded,
     ends,
+    cut: outside,
+    count: all,
 };
 
 /// Converts with the given pieces.
@@ -44,23 +49,32 @@ pub fn converted(
     direction: Direction,
     conversion: Conversion,
     codes: &mut Guarded<u16>,
-    out: &mut Guarded<u16>,
+    out: &mut Clamped<u16>,
     pieces: Pieces,
 ) -> i64 {
-    clamped(direction, conversion, codes, out, pieces.ends, |point| {
-        let values = values(direction, conversion, pieces.line, point);
-        let [primaries, ..] = conversion;
-        let weights = (pieces.weights)(primaries);
-        let values = match direction {
-            Direction::RgbToYcbcr => (pieces.ycbcr)(weights, values),
-            Direction::YcbcrToRgb => (pieces.rgb)(weights, values),
-        };
+    clamped(direction, conversion, codes, out, pieces, |point| {
+        let numbers = numbers(direction, conversion, pieces, point);
         let made = made_scales(direction, conversion);
-        [0, 1, 2].map(|channel| {
-            let (step, base) = (pieces.line)(made[channel]);
-            (pieces.round)(on_line((step, base), values[channel]))
-        })
+        [0, 1, 2].map(|channel| (pieces.round)(made[channel], numbers[channel]))
     })
+}
+
+/// The numbers of the channels made, before rounding.
+pub fn numbers(
+    direction: Direction,
+    conversion: Conversion,
+    pieces: Pieces,
+    point: [u16; 3],
+) -> [Ratio; 3] {
+    let values = values(direction, conversion, pieces.line, point);
+    let [primaries, ..] = conversion;
+    let weights = (pieces.weights)(primaries);
+    let values = match direction {
+        Direction::RgbToYcbcr => (pieces.ycbcr)(weights, values),
+        Direction::YcbcrToRgb => (pieces.rgb)(weights, values),
+    };
+    let made = made_scales(direction, conversion);
+    [0, 1, 2].map(|channel| on_line((pieces.line)(made[channel]), values[channel]))
 }
 
 /// The whole numbers of each point are the rule's; refusals and clamping are right.
@@ -68,33 +82,38 @@ pub fn pointwise(
     direction: Direction,
     conversion: Conversion,
     codes: &mut Guarded<u16>,
-    out: &mut Guarded<u16>,
+    out: &mut Clamped<u16>,
     rule: impl Fn([u16; 3]) -> [i128; 3],
 ) -> i64 {
-    clamped(direction, conversion, codes, out, ends, rule)
+    clamped(direction, conversion, codes, out, PIECES, rule)
 }
 
-/// The same with other ends.
+/// The same with the ends and cuts of other pieces.
 fn clamped(
     direction: Direction,
     conversion: Conversion,
     codes: &mut Guarded<u16>,
-    out: &mut Guarded<u16>,
-    ends: Ends,
+    out: &mut Clamped<u16>,
+    pieces: Pieces,
     rule: impl Fn([u16; 3]) -> [i128; 3],
 ) -> i64 {
     if let Some(refusal) = refusal(conversion, codes.elements(), out.length()) {
         return refused(refusal);
     }
-    let ends = made_scales(direction, conversion).map(|scale| ends(scale).map(i128::from));
+    let scales = made_scales(direction, conversion);
     let (points, _) = codes.elements().as_chunks();
+    let mut cut = Vec::new();
     for (&point, made) in points.iter().zip(out.output().chunks_mut(3)) {
         let numbers = rule(point);
         for channel in 0..3 {
-            let [least, greatest] = ends[channel];
-            made[channel] = numbers[channel].clamp(least, greatest) as u16;
+            let (scale, number) = (scales[channel], numbers[channel]);
+            let ends = (pieces.ends)(scale);
+            let [least, greatest] = ends.map(i128::from);
+            made[channel] = number.clamp(least, greatest) as u16;
+            cut.push((pieces.cut)(scale, number, ends));
         }
     }
+    out.cuts[CUTS] = (pieces.count)(&cut) as u32;
     points.len() as i64
 }
 
@@ -168,6 +187,14 @@ pub fn rgb([kr, kg, kb]: [i128; 3], [y, cb, cr]: [Ratio; 3]) -> [Ratio; 3] {
 /// The number on a line, before rounding.
 pub fn on_line((step, base): (i32, i32), (p, q): Ratio) -> Ratio {
     (p * i128::from(step) + q * i128::from(base), q)
+}
+
+/// As the range rounds: full range a half away from zero, the others up.
+pub fn rounded(scale: Scale, (p, q): Ratio) -> i128 {
+    match scale.range {
+        Range::Full if p < 0 => -half_up((-p, q)),
+        _ => half_up((p, q)),
+    }
 }
 
 pub fn half_up((p, q): Ratio) -> i128 {

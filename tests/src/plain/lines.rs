@@ -2,13 +2,14 @@
 
 use reference::refusal::Refusal;
 
+use crate::clamped::Clamped;
 use crate::guarded::Guarded;
 use crate::layouts::{bytes_a_point, DEPTH, MODEL, OFFSETS, RANGE};
-use crate::library::{Layout, Setting, Slot, FLOAT};
+use crate::library::{Layout, Quantize, Slot, CUTS, EMPTY_SLOT, FLOAT};
 use crate::quantization::refused;
 
 use super::layout::is_valid;
-use super::quantization::{divided, Line};
+use super::quantization::{all, divided, Count, Line};
 
 /// The place among a point's bits of a bit of a channel's field. Bit 0 is the
 /// lowest of the first byte.
@@ -67,20 +68,34 @@ pub fn decoded(
 pub fn encoded(
     layout: Layout,
     values: &[f32],
-    packed: &mut Guarded<u8>,
-    quantize: fn(Setting, f32) -> i64,
+    packed: &mut Clamped<u8>,
+    quantize: Quantize,
+) -> i64 {
+    counted(layout, values, packed, quantize, all)
+}
+
+/// And with the given rule for the number of cuts.
+pub fn counted(
+    layout: Layout,
+    values: &[f32],
+    packed: &mut Clamped<u8>,
+    quantize: Quantize,
+    count_cuts: Count,
 ) -> i64 {
     if let Some(refusal) = refusal(layout, packed.length(), values.len()) {
         return refused(refusal);
     }
-    let mut codes = Vec::new();
+    let (mut codes, mut cut) = (Vec::new(), Vec::new());
     for (&value, channel) in values.iter().zip([0, 1, 2].into_iter().cycle()) {
         let setting = [layout[MODEL], layout[RANGE], layout[DEPTH], channel];
-        match quantize(setting, value) {
+        let mut slot = EMPTY_SLOT;
+        match quantize(setting, value, &mut slot) {
             code @ 0.. => codes.push(code as u16),
             refusal => return refusal,
         }
+        cut.push(slot[CUTS] != 0);
     }
+    packed.cuts[CUTS] = count_cuts(&cut) as u32;
     packed.output().fill(0);
     store_fields(layout, &codes, packed.output(), place);
     count(layout, packed.output())

@@ -3,7 +3,7 @@
 use reference::quantization::{Kind, Range, Scale};
 use reference::refusal::Refusal;
 
-use crate::library::{Setting, Slot, FLOAT};
+use crate::library::{Setting, Slot, CUTS, FLOAT};
 use crate::quantization::{refused, scale};
 
 /// A scale as a straight line: a code is the base plus the value times the step.
@@ -41,6 +41,21 @@ pub fn all_codes(scale: Scale) -> [i64; 2] {
     [0, (1 << scale.depth) - 1]
 }
 
+/// Whether a rounded number was cut on a scale, where the ends are these.
+pub type Cut = fn(Scale, i128, [i64; 2]) -> bool;
+
+pub fn outside(_: Scale, number: i128, ends: [i64; 2]) -> bool {
+    let [least, greatest] = ends.map(i128::from);
+    number < least || greatest < number
+}
+
+/// How many places of a line were cut, of which this says whether each was.
+pub type Count = fn(&[bool]) -> usize;
+
+pub fn all(cut: &[bool]) -> usize {
+    cut.iter().filter(|&&cut| cut).count()
+}
+
 /// What a code comes back as when it is decoded and encoded, or converted to grey:
 /// itself, or the nearest code that its scale makes.
 pub fn returned(scale: Scale, code: u16) -> u16 {
@@ -70,24 +85,57 @@ pub fn divided(
 }
 
 /// Quantizes with the given line and rounding.
-pub fn rounded(setting: Setting, value: f32, line: Line, round: fn(f64) -> f64) -> i64 {
-    numbered(setting, value, |scale, v| round(on_line(line(scale), v)))
+pub fn rounded(
+    setting: Setting,
+    value: f32,
+    cuts: &mut Slot,
+    line: Line,
+    round: fn(f64) -> f64,
+) -> i64 {
+    numbered(setting, value, cuts, |scale, v| {
+        round(on_line(line(scale), v))
+    })
 }
 
 /// The whole number is the rule's; refusals and clamping are right.
-pub fn numbered(setting: Setting, value: f32, rule: impl Fn(Scale, f32) -> f64) -> i64 {
-    clamped(setting, value, rule, ends)
+pub fn numbered(
+    setting: Setting,
+    value: f32,
+    cuts: &mut Slot,
+    rule: impl Fn(Scale, f32) -> f64,
+) -> i64 {
+    clamped(setting, value, cuts, rule, ends)
 }
 
 /// Quantizes with the given rule for the whole number and the given ends.
-pub fn clamped(setting: Setting, value: f32, rule: impl Fn(Scale, f32) -> f64, ends: Ends) -> i64 {
+pub fn clamped(
+    setting: Setting,
+    value: f32,
+    cuts: &mut Slot,
+    rule: impl Fn(Scale, f32) -> f64,
+    ends: Ends,
+) -> i64 {
+    cut(setting, value, cuts, rule, ends, outside)
+}
+
+/// And with the given rule for what is cut.
+pub fn cut(
+    setting: Setting,
+    value: f32,
+    cuts: &mut Slot,
+    rule: impl Fn(Scale, f32) -> f64,
+    ends: Ends,
+    cut: Cut,
+) -> i64 {
     match scale(setting) {
         Err(refusal) => refused(refusal),
         Ok(_) if value.is_nan() => refused(Refusal::NotANumber),
         Ok(scale) => {
             let [least, greatest] = ends(scale);
             // A float beyond 64 bits, infinities too, becomes the last number there.
-            (rule(scale, value) as i64).clamp(least, greatest)
+            let number = rule(scale, value) as i64;
+            cuts[CUTS] = cut(scale, number.into(), [least, greatest]).into();
+            number.clamp(least, greatest)
         }
     }
 }
@@ -106,6 +154,8 @@ pub fn on_line((step, base): (i32, i32), value: f32) -> f64 {
     f64::from(value) * f64::from(step) + f64::from(base)
 }
 
+/// In full range too: a half under zero, which would be rounded down there, is cut either
+/// way but for -1/2, and no float is that.
 pub fn half_up(x: f64) -> f64 {
     (x + 0.5).floor()
 }

@@ -1,10 +1,10 @@
 //! Every code of every setting.
 
-use crate::library::{Library, FLOAT};
+use crate::library::{Library, CUTS, EMPTY_SLOT, FLOAT};
 use crate::plain::quantization::returned;
 use crate::tally::{Flow, Tally};
 
-use super::{compare_dequantize, scale_of, settings, words, EMPTY_SLOT};
+use super::{compare_dequantize, scale_of, settings, words};
 
 /// Every 16-bit number as a code, those above 2^n - 1 included.
 pub fn every_code(library: &Library, tally: &mut Tally) -> Flow {
@@ -17,7 +17,7 @@ pub fn every_code(library: &Library, tally: &mut Tally) -> Flow {
 }
 
 /// Every code made a float must come back as itself, but for those that its range
-/// never makes, which come back as the nearer end. This asks the library alone: the
+/// never makes, which come back as the nearer end, cut. This asks the library alone: the
 /// reference has no part in it.
 pub fn there_and_back(library: &Library, tally: &mut Tally) -> Flow {
     for setting in settings() {
@@ -27,11 +27,14 @@ pub fn there_and_back(library: &Library, tally: &mut Tally) -> Flow {
             let mut slot = EMPTY_SLOT;
             (library.dequantize)(setting, code, &mut slot);
             let bits = slot[FLOAT];
-            let back = (library.quantize)(setting, f32::from_bits(bits));
-            tally.compare(back == i64::from(must_be), || {
+            let mut slot = EMPTY_SLOT;
+            let back = (library.quantize)(setting, f32::from_bits(bits), &mut slot);
+            let (cuts, must_be_cuts) = (slot[CUTS], u32::from(code != must_be));
+            let same = back == i64::from(must_be) && cuts == must_be_cuts;
+            tally.compare(same, || {
                 format!(
-                    "there and back {}, code {code}: value 0x{bits:08x}, then {back}, \
-                     must be {must_be}",
+                    "there and back {}, code {code}: value 0x{bits:08x}, then {back} and \
+                     {cuts:x} cut, must be {must_be} and {must_be_cuts}",
                     words(setting)
                 )
             })?;

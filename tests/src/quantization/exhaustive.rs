@@ -1,14 +1,14 @@
 //! All 2^32 floats of a scale, not-a-numbers too.
 
 use reference::fixed;
-use reference::quantization::Scale;
+use reference::quantization::{quantized, Scale};
 use reference::refusal::Refusal;
 
 use crate::exhaustive::on_all_cores;
-use crate::library::{Library, Setting};
+use crate::library::{Library, Setting, EMPTY_SLOT};
 use crate::tally::{Flow, Tally};
 
-use super::{expected_quantize, refused, scale_of, settings, words};
+use super::{answer, scale_of, settings, words};
 
 /// The floats are handed to the threads in blocks that share their highest bits.
 const BLOCKS: u32 = 256;
@@ -38,22 +38,27 @@ fn go_through(
         let bits = block << BLOCK_BITS | low;
         let setting = settings[bits as usize % settings.len()];
         let value = f32::from_bits(bits);
-        let expected = if value.is_nan() {
-            refused(Refusal::NotANumber)
+        let short = if value.is_nan() {
+            Err(Refusal::NotANumber)
         } else {
-            i64::from(fixed::quantize(scale, bits))
+            Ok(fixed::quantize(scale, bits))
         };
-        let answer = (library.quantize)(setting, value);
+        let (mut slot, mut expected_slot) = (EMPTY_SLOT, EMPTY_SLOT);
+        let answered = (library.quantize)(setting, value, &mut slot);
+        let expected = answer(short, &mut expected_slot);
         let sampled = bits.is_multiple_of(SAMPLE);
-        let agreed = !sampled || expected == expected_quantize(setting, bits);
-        tally.compare(answer == expected && agreed, || {
-            let long = expected_quantize(setting, bits);
-            format!(
-                "quantize {}, value 0x{bits:08x}: answer {answer}, must be {expected}, \
-                 by the 128 bits {long}",
-                words(setting)
+        let agreed = !sampled || short == quantized(scale, bits);
+        tally.compare(
+            answered == expected && slot == expected_slot && agreed,
+            || {
+                format!(
+                "quantize {}, value 0x{bits:08x}: answer {answered} and cuts {slot:x?}, must be \
+                 {expected} and {expected_slot:x?}, by the 128 bits {:?}",
+                words(setting),
+                quantized(scale, bits)
             )
-        })?;
+            },
+        )?;
     }
     Flow::Continue(())
 }

@@ -11,7 +11,7 @@ use crate::tally::{Flow, Tally};
 
 use super::{compare_quantize, scale_of, settings};
 
-const SIGNS: [u32; 2] = [0, 1 << 31];
+pub const SIGNS: [u32; 2] = [0, 1 << 31];
 const QUIET: u32 = 1 << 22;
 const NOT_FINITE: u32 = 255 << 23;
 

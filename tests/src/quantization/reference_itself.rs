@@ -3,13 +3,14 @@
 use reference::fixed;
 use reference::float::{self, Value};
 use reference::fraction::Fraction;
+use reference::quantization;
 
 use crate::library::Library;
 use crate::random::Random;
 use crate::tally::{Flow, Tally};
 
 use super::floats::{around_codes, around_ties, at_every_exponent, of_moderate_size};
-use super::{expected_quantize, scale_of, settings, words};
+use super::{scale_of, settings, words};
 
 const RANDOM_FLOATS: usize = 20_000;
 
@@ -52,11 +53,11 @@ pub fn paths(_: &Library, tally: &mut Tally) -> Flow {
             .chain(any.iter().copied())
             .chain(moderate);
         for bits in floats.filter(|&bits| !f32::from_bits(bits).is_nan()) {
-            let short = i64::from(fixed::quantize(scale, bits));
-            let long = expected_quantize(setting, bits);
+            let short = Ok(fixed::quantize(scale, bits));
+            let long = quantization::quantized(scale, bits);
             tally.compare(short == long, || {
                 format!(
-                    "reference {}, value 0x{bits:08x}: {short} in 64 bits, {long} in 128",
+                    "reference {}, value 0x{bits:08x}: {short:?} in 64 bits, {long:?} in 128",
                     words(setting)
                 )
             })?;

@@ -3,7 +3,7 @@
 use reference::quantization::{Kind, Range, Scale};
 
 use crate::color::expected_convert;
-use crate::plain::color::{converted, half_up, weights, Pieces, Ratio, ONE, PIECES};
+use crate::plain::color::{converted, half_up, rounded, weights, Pieces, Ratio, ONE, PIECES};
 use crate::plain::quantization::line;
 
 use super::converts::converts;
@@ -192,7 +192,7 @@ const PAIRS: &[[Wrong; 2]] = &[
         "truncation for rounding",
         |direction, conversion, codes, out| {
             let pieces = Pieces {
-                round: |(p, q)| p / q,
+                round: |_, (p, q)| p / q,
                 ..PIECES
             };
             converted(direction, conversion, codes, out, pieces)
@@ -202,7 +202,7 @@ const PAIRS: &[[Wrong; 2]] = &[
         "a half rounded down",
         |direction, conversion, codes, out| {
             let pieces = Pieces {
-                round: |(p, q)| -half_up((-p, q)),
+                round: |_, (p, q)| -half_up((-p, q)),
                 ..PIECES
             };
             converted(direction, conversion, codes, out, pieces)
@@ -212,7 +212,7 @@ const PAIRS: &[[Wrong; 2]] = &[
         "a half rounded to even",
         |direction, conversion, codes, out| {
             let pieces = Pieces {
-                round: half_to_even,
+                round: |_, ratio| half_to_even(ratio),
                 ..PIECES
             };
             converted(direction, conversion, codes, out, pieces)
@@ -222,7 +222,7 @@ const PAIRS: &[[Wrong; 2]] = &[
         "rounding without the sign",
         |direction, conversion, codes, out| {
             let pieces = Pieces {
-                round: |(p, q)| half_up((p.abs(), q)),
+                round: |_, (p, q)| half_up((p.abs(), q)),
                 ..PIECES
             };
             converted(direction, conversion, codes, out, pieces)
@@ -232,7 +232,10 @@ const PAIRS: &[[Wrong; 2]] = &[
         "a number under zero to the top",
         |direction, conversion, codes, out| {
             let pieces = Pieces {
-                round: |(p, q)| if p < 0 { 1 << 16 } else { half_up((p, q)) },
+                round: |scale, ratio| match rounded(scale, ratio) {
+                    ..0 => 1 << 16,
+                    number => number,
+                },
                 ..PIECES
             };
             converted(direction, conversion, codes, out, pieces)
@@ -242,7 +245,7 @@ const PAIRS: &[[Wrong; 2]] = &[
         "a number of nine bits wraps round",
         |direction, conversion, codes, out| {
             let pieces = Pieces {
-                round: |ratio| match half_up(ratio) {
+                round: |scale, ratio| match rounded(scale, ratio) {
                     number @ 256..512 => number - 256,
                     number => number,
                 },

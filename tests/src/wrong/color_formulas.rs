@@ -1,8 +1,8 @@
 //! Mistakes in the formulas of one direction.
 
 use crate::plain::color::{
-    converted, half_up, made_scales, on_line, pointwise, rgb, values, weights, ycbcr, Pieces,
-    Ratio, ONE, PIECES,
+    converted, half_up, made_scales, on_line, pointwise, rgb, rounded, values, weights, ycbcr,
+    Pieces, Ratio, ONE, PIECES,
 };
 use crate::plain::quantization::line;
 
@@ -176,13 +176,13 @@ pub const WRONG: &[Wrong] = &[
             pointwise(direction, conversion, codes, out, |point| {
                 let weights = weights(conversion[0]);
                 let values = values(direction, conversion, line, point);
-                let [brightness, ..] = made_scales(direction, conversion).map(line);
-                let (step, base) = brightness;
+                let [made, ..] = made_scales(direction, conversion);
+                let (step, base) = line(made);
+                let number = |value| rounded(made, on_line((step, base), value));
                 let [r, _, b] = rgb(weights, values);
-                let [red, blue] = [r, b].map(|value| half_up(on_line(brightness, value)));
-                let rounded = [red, blue].map(|code| (code - i128::from(base), i128::from(step)));
-                let g = green(weights, values[0], rounded);
-                [red, half_up(on_line(brightness, g)), blue]
+                let [red, blue] = [r, b].map(number);
+                let codes = [red, blue].map(|code| (code - i128::from(base), i128::from(step)));
+                [red, number(green(weights, values[0], codes)), blue]
             })
         },
     ),

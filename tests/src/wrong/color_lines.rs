@@ -2,10 +2,10 @@
 
 use crate::color::expected_convert;
 use crate::guarded::Guarded;
-use crate::library::Direction;
+use crate::library::{Direction, CUTS};
 
 use super::converts::converts;
-use super::points::keeping_from;
+use super::points::keeping_clamped_from;
 use super::Wrong;
 
 pub const WRONG: &[Wrong] = PAIRS.as_flattened();
@@ -15,7 +15,7 @@ const PAIRS: &[[Wrong; 2]] = &[
     converts(
         "only the first point converted",
         |direction, conversion, codes, out| {
-            keeping_from(3, out, |out| {
+            keeping_clamped_from(3, out, |out| {
                 expected_convert(direction, conversion, codes, out)
             })
         },
@@ -23,7 +23,7 @@ const PAIRS: &[[Wrong; 2]] = &[
     converts(
         "point 4,096 left out",
         |direction, conversion, codes, out| {
-            keeping_from(3 * 4095, out, |out| {
+            keeping_clamped_from(3 * 4095, out, |out| {
                 expected_convert(direction, conversion, codes, out)
             })
         },
@@ -167,7 +167,10 @@ const PAIRS: &[[Wrong; 2]] = &[
     converts(
         "an empty line never refused",
         |direction, conversion, codes, out| match codes.length() {
-            0 => 0,
+            0 => {
+                out.cuts[CUTS] = 0;
+                0
+            }
             _ => expected_convert(direction, conversion, codes, out),
         },
     ),

@@ -1,5 +1,6 @@
 //! Mistakes in reckoning colors: rounded matrices, floats and doubles.
 
+use crate::clamped::Clamped;
 use crate::color::expected_convert;
 use crate::guarded::Guarded;
 use crate::library::{Conversion, Direction};
@@ -84,7 +85,7 @@ fn by_matrix(
     direction: Direction,
     conversion: Conversion,
     codes: &mut Guarded<u16>,
-    out: &mut Guarded<u16>,
+    out: &mut Clamped<u16>,
     matrix: [[f64; 3]; 3],
 ) -> i64 {
     pointwise(direction, conversion, codes, out, |point| {

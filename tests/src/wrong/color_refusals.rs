@@ -2,12 +2,13 @@
 
 use reference::refusal::Refusal;
 
+use crate::clamped::counted;
 use crate::color::{converted, expected_convert, DEPTH};
-use crate::lines::answer;
 use crate::quantization::refused;
 
 use super::converts::converts;
 use super::ends::{refusing, within_the_ends};
+use super::points::together;
 use super::Wrong;
 
 pub const WRONG: &[Wrong] = PAIRS.as_flattened();
@@ -118,10 +119,11 @@ const PAIRS: &[[Wrong; 2]] = &[
             direction, conversion, codes, out,
         ) {
             -13 if codes.length() == 3 * 4097 && out.length() == 3 * 4097 => {
-                let (first, last) = codes.elements().split_at(3 * 4096);
-                let (made, made_last) = out.output().split_at_mut(3 * 4096);
-                answer(converted(direction, conversion, first, made))
-                    + answer(converted(direction, conversion, last, made_last))
+                let given = codes.elements().chunks(3 * 4096);
+                let pieces = given
+                    .zip(out.made.output().chunks_mut(3 * 4096))
+                    .map(|(given, made)| converted(direction, conversion, given, made));
+                together(pieces, &mut out.cuts)
             }
             answer => answer,
         },
@@ -140,8 +142,9 @@ const PAIRS: &[[Wrong; 2]] = &[
         "a too long output accepted",
         |direction, conversion, codes, out| {
             let length = codes.length().min(out.length());
-            let out = &mut out.output()[..length];
-            answer(converted(direction, conversion, codes.elements(), out))
+            let made = &mut out.made.output()[..length];
+            let counts = converted(direction, conversion, codes.elements(), made);
+            counted(counts, &mut out.cuts)
         },
     ),
     converts(
@@ -149,7 +152,8 @@ const PAIRS: &[[Wrong; 2]] = &[
         |direction, conversion, codes, out| {
             let length = codes.length().min(out.length());
             let codes = &codes.elements()[..length];
-            answer(converted(direction, conversion, codes, out.output()))
+            let counts = converted(direction, conversion, codes, out.output());
+            counted(counts, &mut out.cuts)
         },
     ),
     converts(
@@ -157,17 +161,21 @@ const PAIRS: &[[Wrong; 2]] = &[
         |direction, conversion, codes, out| {
             let [given, made] = [codes.length(), out.length()].map(|codes| codes / 3 * 3);
             let codes = &codes.elements()[..given];
-            let out = &mut out.output()[..made];
-            answer(converted(direction, conversion, codes, out))
+            let made = &mut out.made.output()[..made];
+            let counts = converted(direction, conversion, codes, made);
+            counted(counts, &mut out.cuts)
         },
     ),
     converts(
         "an empty line refused",
         |direction, conversion, codes, out| match expected_convert(
-            direction, conversion, codes, out,
+            direction,
+            conversion,
+            codes,
+            &mut out.clone(),
         ) {
             0 => refused(Refusal::Length),
-            answer => answer,
+            _ => expected_convert(direction, conversion, codes, out),
         },
     ),
     // Refusal 14.
@@ -177,15 +185,11 @@ const PAIRS: &[[Wrong; 2]] = &[
             direction, conversion, codes, out,
         ) {
             -14 => {
-                let points = codes.elements().chunks(3).zip(out.output().chunks_mut(3));
-                let mut count = 0;
-                for (given, made) in points {
-                    match converted(direction, conversion, given, made) {
-                        Ok(one) => count += one as i64,
-                        Err(refusal) => return refused(refusal),
-                    }
-                }
-                count
+                let given = codes.elements().chunks(3);
+                let pieces = given
+                    .zip(out.made.output().chunks_mut(3))
+                    .map(|(given, made)| converted(direction, conversion, given, made));
+                together(pieces, &mut out.cuts)
             }
             answer => answer,
         },

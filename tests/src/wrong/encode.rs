@@ -3,25 +3,25 @@
 use reference::lines;
 use reference::refusal::Refusal;
 
-use crate::guarded::Guarded;
+use crate::clamped::{counted, Clamped};
 use crate::layouts::{bytes_a_point, LEGACY, OFFSETS, PRIMARIES, RANGE};
-use crate::library::{Layout, Library};
+use crate::library::{EncodeLine, EncodePoint, Library};
 use crate::lines::{answer, expected_encode_line, expected_encode_point};
 use crate::plain::lines::{encoded, place, store_fields};
 use crate::plain::quantization::{clamped, line, numbered, right_number};
 use crate::quantization::refused;
 
 use super::ends::{brightness_alone, infinities_to_all_codes, rounded_after_the_clamp};
-use super::points::{keeping_from, older_as_full};
+use super::points::{keeping_clamped_from, older_as_full, together};
 use super::{Wrong, REFERENCE};
 
 pub const WRONG: &[Wrong] = &[
     // Which points.
     encodes("nothing encoded", |layout, values, out| {
-        keeping_from(0, out, |out| expected_encode_line(layout, values, out))
+        keeping_clamped_from(0, out, |out| expected_encode_line(layout, values, out))
     }),
     encodes("only the first point encoded", |layout, values, out| {
-        keeping_from(bytes_a_point(layout), out, |out| {
+        keeping_clamped_from(bytes_a_point(layout), out, |out| {
             expected_encode_line(layout, values, out)
         })
     }),
@@ -44,12 +44,12 @@ pub const WRONG: &[Wrong] = &[
         },
     ),
     encodes("unused bits kept, encoding", |layout, values, out| {
-        let before = out.clone();
+        let before = out.made.clone();
         let count = expected_encode_line(layout, values, out);
         if count > 0 {
             let mut codes = vec![0; values.len()];
             let unpacked = lines::unpack_line(layout, out.output(), &mut codes);
-            *out = before;
+            out.made = before;
             store_fields(layout, &codes, out.output(), place);
             return answer(unpacked);
         }
@@ -57,8 +57,8 @@ pub const WRONG: &[Wrong] = &[
     }),
     // Values.
     encodes("a rounded product", |layout, values, out| {
-        encoded(layout, values, out, |setting, value| {
-            numbered(setting, value, |scale, v| {
+        encoded(layout, values, out, |setting, value, cuts| {
+            numbered(setting, value, cuts, |scale, v| {
                 let (step, base) = line(scale);
                 f64::from((v * step as f32 + base as f32 + 0.5).floor())
             })
@@ -71,16 +71,16 @@ pub const WRONG: &[Wrong] = &[
     encodes(
         "narrow brightness alone clamped, encoding",
         |layout, values, out| {
-            encoded(layout, values, out, |setting, value| {
-                clamped(setting, value, right_number, brightness_alone)
+            encoded(layout, values, out, |setting, value, cuts| {
+                clamped(setting, value, cuts, right_number, brightness_alone)
             })
         },
     ),
     encodes_points(
         "narrow brightness alone clamped, a point",
         |layout, values, out| {
-            encoded(layout, &values, out, |setting, value| {
-                clamped(setting, value, right_number, brightness_alone)
+            encoded(layout, &values, out, |setting, value, cuts| {
+                clamped(setting, value, cuts, right_number, brightness_alone)
             })
         },
     ),
@@ -102,9 +102,9 @@ pub const WRONG: &[Wrong] = &[
     encodes(
         "all channels on the scale of channel 0",
         |layout, values, out| {
-            encoded(layout, values, out, |setting, value| {
+            encoded(layout, values, out, |setting, value, cuts| {
                 let [model, range, depth, _] = setting;
-                (REFERENCE.quantize)([model, range, depth, 0], value)
+                (REFERENCE.quantize)([model, range, depth, 0], value, cuts)
             })
         },
     ),
@@ -127,9 +127,9 @@ pub const WRONG: &[Wrong] = &[
     // Counts.
     encodes(
         "an empty line refused",
-        |layout, values, out| match expected_encode_line(layout, values, out) {
+        |layout, values, out| match expected_encode_line(layout, values, &mut out.clone()) {
             0 => refused(Refusal::Length),
-            answer => answer,
+            _ => expected_encode_line(layout, values, out),
         },
     ),
     encodes_points("0 answered for a point", |layout, values, out| {
@@ -141,9 +141,10 @@ pub const WRONG: &[Wrong] = &[
         match expected_encode_line(layout, values, out) {
             -13 if values.len() == 3 * 4097 && out.length() == one_more => {
                 let bits = bits(values);
-                let (packed, last) = out.output().split_at_mut(most);
-                answer(lines::encode_line(layout, &bits[..3 * 4096], packed))
-                    + answer(lines::encode_line(layout, &bits[3 * 4096..], last))
+                let (packed, last) = out.made.output().split_at_mut(most);
+                let pieces = [(&bits[..3 * 4096], packed), (&bits[3 * 4096..], last)];
+                let encode = |(bits, out): (&[u32], _)| lines::encode_line(layout, bits, out);
+                together(pieces.into_iter().map(encode), &mut out.cuts)
             }
             answer => answer,
         }
@@ -153,18 +154,22 @@ pub const WRONG: &[Wrong] = &[
         |layout, values, out| {
             let needed = values.len() / 3 * bytes_a_point(layout);
             let length = needed.min(out.length());
-            let output = &mut out.output()[..length];
-            answer(lines::encode_line(layout, &bits(values), output))
+            let output = &mut out.made.output()[..length];
+            counted(
+                lines::encode_line(layout, &bits(values), output),
+                &mut out.cuts,
+            )
         },
     ),
     encodes(
         "a too short output filled",
         |layout, values, out| match expected_encode_line(layout, values, out) {
             -13 => {
-                let mut longer = Guarded::new(values.len() / 3 * bytes_a_point(layout));
+                let mut longer = Clamped::new(values.len() / 3 * bytes_a_point(layout));
                 let count = expected_encode_line(layout, values, &mut longer);
                 let length = longer.length().min(out.length());
                 out.output()[..length].copy_from_slice(&longer.output()[..length]);
+                out.cuts = longer.cuts;
                 count
             }
             answer => answer,
@@ -189,14 +194,12 @@ pub const WRONG: &[Wrong] = &[
         "12 found after the first store",
         |layout, values, out| match expected_encode_line(layout, values, out) {
             -12 => {
-                let points = out.output().chunks_mut(bytes_a_point(layout));
-                answer(
-                    points
-                        .zip(bits(values).chunks(3))
-                        .try_fold(0, |count, (point, bits)| {
-                            lines::encode_line(layout, bits, point).map(|one| count + one)
-                        }),
-                )
+                let points = out.made.output().chunks_mut(bytes_a_point(layout));
+                let bits = bits(values);
+                let pieces = points
+                    .zip(bits.chunks(3))
+                    .map(|(point, bits)| lines::encode_line(layout, bits, point));
+                together(pieces, &mut out.cuts)
             }
             answer => answer,
         },
@@ -277,10 +280,7 @@ pub const WRONG: &[Wrong] = &[
     encodes_points("every point refused", |_, _, _| refused(Refusal::Outside)),
 ];
 
-pub const fn encodes(
-    mistake: &'static str,
-    encode_line: fn(Layout, &[f32], &mut Guarded<u8>) -> i64,
-) -> Wrong {
+pub const fn encodes(mistake: &'static str, encode_line: EncodeLine) -> Wrong {
     let library = Library {
         encode_line,
         ..REFERENCE
@@ -288,10 +288,7 @@ pub const fn encodes(
     (mistake, library)
 }
 
-pub const fn encodes_points(
-    mistake: &'static str,
-    encode_point: fn(Layout, [f32; 3], &mut Guarded<u8>) -> i64,
-) -> Wrong {
+pub const fn encodes_points(mistake: &'static str, encode_point: EncodePoint) -> Wrong {
     let library = Library {
         encode_point,
         ..REFERENCE

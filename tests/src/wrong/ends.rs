@@ -7,7 +7,7 @@ use reference::refusal::Refusal;
 
 use crate::guarded::{Element, Guarded};
 use crate::layouts::bytes_a_point;
-use crate::library::{Layout, Setting};
+use crate::library::{Layout, Setting, Slot};
 use crate::plain::color::{converted, Pieces, PIECES};
 use crate::plain::lines::encoded;
 use crate::plain::quantization::{
@@ -25,20 +25,20 @@ use super::{Wrong, REFERENCE};
 macro_rules! mistaken {
     ($($mistake:literal: $ends:expr,)*) => {
         pub const QUANTIZING: &[Wrong] = &[$(
-            quantizes($mistake, |setting, value| {
-                clamped(setting, value, right_number, $ends)
+            quantizes($mistake, |setting, value, cuts| {
+                clamped(setting, value, cuts, right_number, $ends)
             }),
         )*];
 
         pub const ENCODING: &[Wrong] = &[$(
             encodes(concat!($mistake, ", encoding"), |layout, values, out| {
-                encoded(layout, values, out, |setting, value| {
-                    clamped(setting, value, right_number, $ends)
+                encoded(layout, values, out, |setting, value, cuts| {
+                    clamped(setting, value, cuts, right_number, $ends)
                 })
             }),
             encodes_points(concat!($mistake, ", a point"), |layout, values, out| {
-                encoded(layout, &values, out, |setting, value| {
-                    clamped(setting, value, right_number, $ends)
+                encoded(layout, &values, out, |setting, value, cuts| {
+                    clamped(setting, value, cuts, right_number, $ends)
                 })
             }),
         )*];
@@ -139,26 +139,27 @@ pub fn brightness_alone(scale: Scale) -> [i64; 2] {
 }
 
 /// Narrow infinities alone to the ends of all codes.
-pub fn infinities_to_all_codes(setting: Setting, value: f32) -> i64 {
+pub fn infinities_to_all_codes(setting: Setting, value: f32, cuts: &mut Slot) -> i64 {
     if value.is_infinite() {
-        clamped(setting, value, right_number, |scale| {
+        clamped(setting, value, cuts, right_number, |scale| {
             narrow(scale, all_codes(scale))
         })
     } else {
-        (REFERENCE.quantize)(setting, value)
+        (REFERENCE.quantize)(setting, value, cuts)
     }
 }
 
 /// Clamped half a code beyond both ends and then rounded, which goes up past the top.
 /// To clamp at the ends themselves and then to round would be right: whole numbers are
-/// rounded to themselves.
-pub fn rounded_after_the_clamp(setting: Setting, value: f32) -> i64 {
+/// rounded to themselves. Its cuts are right.
+pub fn rounded_after_the_clamp(setting: Setting, value: f32, cuts: &mut Slot) -> i64 {
     let rule = |scale, value| {
         let [least, greatest] = ends(scale).map(|end| end as f64);
         let number = on_line(line(scale), value);
         half_up(number.clamp(least - 0.5, greatest + 0.5))
     };
-    clamped(setting, value, rule, |scale| {
+    (REFERENCE.quantize)(setting, value, cuts);
+    clamped(setting, value, &mut cuts.clone(), rule, |scale| {
         narrow(scale, all_codes(scale))
     })
 }
@@ -206,11 +207,7 @@ pub fn refusing_points<T: Element>(
 }
 
 /// Makes a call, but refuses by 14 what it would accept where a code lies beyond.
-pub fn refusing<T: Element>(
-    beyond: bool,
-    out: &mut Guarded<T>,
-    call: impl Fn(&mut Guarded<T>) -> i64,
-) -> i64 {
+pub fn refusing<O: Clone>(beyond: bool, out: &mut O, call: impl Fn(&mut O) -> i64) -> i64 {
     match call(&mut out.clone()) {
         0.. if beyond => refused(Refusal::CodeTooHigh),
         _ => call(out),

@@ -1,8 +1,12 @@
 //! What mistakes in lines share.
 
+use reference::lines::Counts;
+use reference::refusal::Refusal;
+
+use crate::clamped::{counted, Clamped};
 use crate::guarded::{Element, Guarded};
 use crate::layouts::{bytes_a_point, LEGACY, RANGE};
-use crate::library::Layout;
+use crate::library::{Layout, Slot};
 use crate::plain::field::held;
 use crate::plain::layout::is_valid;
 use crate::plain::lines::{load_fields, place, store_fields, Place};
@@ -13,11 +17,41 @@ pub fn keeping_from<T: Element>(
     out: &mut Guarded<T>,
     call: impl FnOnce(&mut Guarded<T>) -> i64,
 ) -> i64 {
-    let mut before = out.clone();
+    let before = out.clone();
     let answer = call(out);
-    let kept = place.min(out.length());
-    out.output()[kept..].copy_from_slice(&before.output()[kept..]);
+    take_back(place, out, &before);
     answer
+}
+
+/// The same of a call that clamps. Its cuts stay.
+pub fn keeping_clamped_from<T: Element>(
+    place: usize,
+    out: &mut Clamped<T>,
+    call: impl FnOnce(&mut Clamped<T>) -> i64,
+) -> i64 {
+    let before = out.made.clone();
+    let answer = call(out);
+    take_back(place, out, &before);
+    answer
+}
+
+fn take_back<T: Element>(place: usize, out: &mut Guarded<T>, before: &Guarded<T>) {
+    let kept = place.min(out.length());
+    out.output()[kept..].copy_from_slice(&before.elements()[kept..]);
+}
+
+/// The answer to a line whose pieces are answered one after the other, up to the first
+/// refusal.
+pub fn together(pieces: impl IntoIterator<Item = Result<Counts, Refusal>>, cuts: &mut Slot) -> i64 {
+    let sum = pieces
+        .into_iter()
+        .try_fold(Counts::default(), |sum, piece| {
+            piece.map(|piece| Counts {
+                points: sum.points + piece.points,
+                cuts: sum.cuts + piece.cuts,
+            })
+        });
+    counted(sum, cuts)
 }
 
 pub fn neighbours_place(layout: Layout, channel: usize, bit: usize) -> usize {

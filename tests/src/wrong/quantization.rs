@@ -3,92 +3,103 @@
 use reference::quantization::{Kind, Range, Scale};
 use reference::refusal::Refusal;
 
-use crate::library::{Library, Setting, Slot, FLOAT};
+use crate::library::{Library, Quantize, Setting, Slot, FLOAT};
 use crate::plain::quantization::{
     all_codes, clamped, divided, ends, half_up, line, numbered, right_number, rounded,
 };
 use crate::quantization::{expected_dequantize, expected_quantize, refused, scale};
 
-use super::ends::{brightness_alone, infinities_to_all_codes, rounded_after_the_clamp, within_the_ends};
+use super::ends::{
+    brightness_alone, infinities_to_all_codes, rounded_after_the_clamp, within_the_ends,
+};
 use super::{Wrong, REFERENCE};
 
 pub const WRONG: &[Wrong] = &[
     // Floats to codes: the formulas.
-    quantizes("a rounded product", |setting, value| {
-        numbered(setting, value, |scale, v| {
+    quantizes("a rounded product", |setting, value, cuts| {
+        numbered(setting, value, cuts, |scale, v| {
             let (step, base) = line(scale);
             f64::from((v * step as f32 + base as f32 + 0.5).floor())
         })
     }),
     quantizes(
         "128 as the base of full-range difference",
-        |setting, value| rounded(setting, value, line_with_base_128, half_up),
+        |setting, value, cuts| rounded(setting, value, cuts, line_with_base_128, half_up),
     ),
-    quantizes("the older full range for the full", |setting, value| {
-        rounded(setting, value, older_line, half_up)
-    }),
+    quantizes(
+        "the older full range for the full",
+        |setting, value, cuts| rounded(setting, value, cuts, older_line, half_up),
+    ),
     // It rounds as the older one's formula does, wherever the clamp lets it show.
-    quantizes("full range for the older", |setting, value| {
-        rounded(setting, value, newer_line, half_up)
-    }),
-    quantizes("128 as the base of older differences", |setting, value| {
-        rounded(setting, value, older_line_with_base_128, half_up)
-    }),
-    quantizes("older differences without their half", |setting, value| {
-        rounded(setting, value, older_line_without_half, half_up)
+    quantizes("full range for the older", |setting, value, cuts| {
+        rounded(setting, value, cuts, newer_line, half_up)
     }),
     quantizes(
+        "128 as the base of older differences",
+        |setting, value, cuts| rounded(setting, value, cuts, older_line_with_base_128, half_up),
+    ),
+    quantizes(
+        "older differences without their half",
+        |setting, value, cuts| rounded(setting, value, cuts, older_line_without_half, half_up),
+    ),
+    quantizes(
         "only 8 bits right",
-        |[model, range, depth, channel], value| {
-            let code = expected_quantize([model, range, 8, channel], value.to_bits());
-            match scale([model, range, depth, channel]) {
-                Ok(scale) if code >= 0 => code << (scale.depth - 8),
-                Ok(_) => code,
-                Err(refusal) => refused(refusal),
+        |[model, range, depth, channel], value, cuts| {
+            let scale = match scale([model, range, depth, channel]) {
+                Ok(scale) => scale,
+                Err(refusal) => return refused(refusal),
+            };
+            match expected_quantize([model, range, 8, channel], value.to_bits(), cuts) {
+                code @ 0.. => code << (scale.depth - 8),
+                refusal => refusal,
             }
         },
     ),
     // Floats to codes: rounding and clamping.
-    quantizes("truncation for rounding", |setting, value| {
-        rounded(setting, value, line, f64::trunc)
+    quantizes("truncation for rounding", |setting, value, cuts| {
+        rounded(setting, value, cuts, line, f64::trunc)
     }),
-    quantizes("a half rounded down", |setting, value| {
-        rounded(setting, value, line, |x| (x - 0.5).ceil())
+    quantizes("a half rounded down", |setting, value, cuts| {
+        rounded(setting, value, cuts, line, |x| (x - 0.5).ceil())
     }),
-    quantizes("a half rounded to even", |setting, value| {
-        rounded(setting, value, line, f64::round_ties_even)
+    quantizes("a half rounded to even", |setting, value, cuts| {
+        rounded(setting, value, cuts, line, f64::round_ties_even)
     }),
-    quantizes("one tie of one scale rounded down", |setting, value| {
-        let code = expected_quantize(setting, value.to_bits());
-        let tie = setting == [1, 2, 12, 2] && value == 0.5;
-        code - i64::from(tie)
+    quantizes(
+        "one tie of one scale rounded down",
+        |setting, value, cuts| {
+            let code = expected_quantize(setting, value.to_bits(), cuts);
+            let tie = setting == [1, 2, 12, 2] && value == 0.5;
+            code - i64::from(tie)
+        },
+    ),
+    quantizes("the next float above quantized", |setting, value, cuts| {
+        expected_quantize(setting, value.next_up().to_bits(), cuts)
     }),
-    quantizes("the next float above quantized", |setting, value| {
-        expected_quantize(setting, value.next_up().to_bits())
+    quantizes("rounding without the sign", |setting, value, cuts| {
+        rounded(setting, value, cuts, line, |x| (x.abs() + 0.5).floor())
     }),
-    quantizes("rounding without the sign", |setting, value| {
-        rounded(setting, value, line, |x| (x.abs() + 0.5).floor())
-    }),
-    quantizes("full difference 0.5 wraps to 0", |setting, value| {
-        let code = expected_quantize(setting, value.to_bits());
+    quantizes("full difference 0.5 wraps to 0", |setting, value, cuts| {
+        let code = expected_quantize(setting, value.to_bits(), cuts);
         match scale(setting) {
             Ok(scale) if is_full_difference(scale) && value == 0.5 => 0,
             _ => code,
         }
     }),
-    quantizes("no clamping at the top", |setting, value| {
+    quantizes("no clamping at the top", |setting, value, cuts| {
+        let code = expected_quantize(setting, value.to_bits(), cuts);
         match scale(setting) {
             Ok(scale) if value.is_finite() => {
                 let [least, _] = ends(scale);
                 (right_number(scale, value) as i64).max(least)
             }
-            _ => expected_quantize(setting, value.to_bits()),
+            _ => code,
         }
     }),
     quantizes(
         "older brightness alone clamped to 4092",
-        |setting, value| {
-            clamped(setting, value, right_number, |scale| {
+        |setting, value, cuts| {
+            clamped(setting, value, cuts, right_number, |scale| {
                 match (scale.range, scale.kind) {
                     (Range::LegacyFull, Kind::Difference) => all_codes(scale),
                     _ => ends(scale),
@@ -96,77 +107,83 @@ pub const WRONG: &[Wrong] = &[
             })
         },
     ),
-    quantizes("narrow brightness alone clamped", |setting, value| {
-        clamped(setting, value, right_number, brightness_alone)
+    quantizes("narrow brightness alone clamped", |setting, value, cuts| {
+        clamped(setting, value, cuts, right_number, brightness_alone)
     }),
     quantizes(
         "narrow infinities to the ends of all codes",
         infinities_to_all_codes,
     ),
     quantizes("rounded after the clamp", rounded_after_the_clamp),
-    quantizes("narrow codes beyond the ends kept", |setting, value| {
-        // As if what was decoded always came back.
-        match (setting, value) {
-            ([_, 1, _, _], -0.6..1.2) => clamped(setting, value, right_number, all_codes),
-            _ => expected_quantize(setting, value.to_bits()),
-        }
-    }),
+    quantizes(
+        "narrow codes beyond the ends kept",
+        |setting, value, cuts| {
+            // As if what was decoded always came back.
+            match (setting, value) {
+                ([_, 1, _, _], -0.6..1.2) => clamped(setting, value, cuts, right_number, all_codes),
+                _ => expected_quantize(setting, value.to_bits(), cuts),
+            }
+        },
+    ),
     quantizes(
         "plus infinity to 4095",
-        |setting, value| match expected_quantize(setting, value.to_bits()) {
+        |setting, value, cuts| match expected_quantize(setting, value.to_bits(), cuts) {
             4092 if value == f32::INFINITY => 4095,
             code => code,
         },
     ),
-    quantizes("4093 to 4095 kept", |setting, value| {
+    quantizes("4093 to 4095 kept", |setting, value, cuts| {
         // As if what was decoded always came back.
         match (setting, value) {
-            ([_, 3, _, _], 0.999..1.0) => clamped(setting, value, right_number, all_codes),
-            _ => expected_quantize(setting, value.to_bits()),
+            ([_, 3, _, _], 0.999..1.0) => clamped(setting, value, cuts, right_number, all_codes),
+            _ => expected_quantize(setting, value.to_bits(), cuts),
         }
     }),
-    quantizes("one older tie rounded down", |setting, value| {
-        let code = expected_quantize(setting, value.to_bits());
+    quantizes("one older tie rounded down", |setting, value, cuts| {
+        let code = expected_quantize(setting, value.to_bits(), cuts);
         let tie = setting == [2, 3, 10, 1] && value == 0.5 / 1024.0;
         code - i64::from(tie)
     }),
-    quantizes("large numbers cut to 32 bits", |setting, value| {
-        rounded(
-            setting,
-            value,
-            line,
-            |x| f64::from(half_up(x) as i64 as i32),
-        )
+    quantizes("large numbers cut to 32 bits", |setting, value, cuts| {
+        rounded(setting, value, cuts, line, |x| {
+            f64::from(half_up(x) as i64 as i32)
+        })
     }),
     // Floats to codes: reading the bits.
-    quantizes("minus infinity to the top", |setting, value| {
+    quantizes("minus infinity to the top", |setting, value, cuts| {
         let minus_infinity = value == f32::NEG_INFINITY;
         let value = if minus_infinity { -value } else { value };
-        expected_quantize(setting, value.to_bits())
+        expected_quantize(setting, value.to_bits(), cuts)
     }),
-    quantizes("infinities refused", |setting, value| {
+    quantizes("infinities refused", |setting, value, cuts| {
         let value = if value.is_infinite() { f32::NAN } else { value };
-        expected_quantize(setting, value.to_bits())
+        expected_quantize(setting, value.to_bits(), cuts)
     }),
-    quantizes("not-a-number given a code", |setting, value| {
+    quantizes("not-a-number given a code", |setting, value, cuts| {
         let value = if value.is_nan() { 0.0 } else { value };
-        expected_quantize(setting, value.to_bits())
+        expected_quantize(setting, value.to_bits(), cuts)
     }),
-    quantizes("signalling not-a-number given a code", |setting, value| {
-        let signalling = value.is_nan() && value.to_bits() >> 22 & 1 == 0;
-        let value = if signalling { 0.0 } else { value };
-        expected_quantize(setting, value.to_bits())
-    }),
-    quantizes("a shift beyond 63 places wraps round", |setting, value| {
-        // To shift by 64 places less is to have 64 more in the exponent field.
-        let mut bits = value.to_bits();
-        while bits >> 23 & 255 < 150 - 64 {
-            bits += 64 << 23;
-        }
-        expected_quantize(setting, bits)
-    }),
-    quantizes("a constant code", |setting, value| {
-        expected_quantize(setting, value.to_bits()).min(0)
+    quantizes(
+        "signalling not-a-number given a code",
+        |setting, value, cuts| {
+            let signalling = value.is_nan() && value.to_bits() >> 22 & 1 == 0;
+            let value = if signalling { 0.0 } else { value };
+            expected_quantize(setting, value.to_bits(), cuts)
+        },
+    ),
+    quantizes(
+        "a shift beyond 63 places wraps round",
+        |setting, value, cuts| {
+            // To shift by 64 places less is to have 64 more in the exponent field.
+            let mut bits = value.to_bits();
+            while bits >> 23 & 255 < 150 - 64 {
+                bits += 64 << 23;
+            }
+            expected_quantize(setting, bits, cuts)
+        },
+    ),
+    quantizes("a constant code", |setting, value, cuts| {
+        expected_quantize(setting, value.to_bits(), cuts).min(0)
     }),
     // Codes to floats.
     dequantizes("a constant float", |setting, code, slot| {
@@ -290,32 +307,32 @@ pub const WRONG: &[Wrong] = &[
         4096.. => refused(Refusal::CodeTooHigh),
         _ => expected_dequantize(setting, code, slot),
     }),
-    quantizes("12 before 9", |setting, value| match value.is_nan() {
+    quantizes("12 before 9", |setting, value, cuts| match value.is_nan() {
         true => refused(Refusal::NotANumber),
-        false => expected_quantize(setting, value.to_bits()),
+        false => expected_quantize(setting, value.to_bits(), cuts),
     }),
-    quantizes("channel 3 taken for channel 0", |setting, value| {
+    quantizes("channel 3 taken for channel 0", |setting, value, cuts| {
         let [model, range, depth, channel] = setting;
         let channel = if channel == 3 { 0 } else { channel };
-        expected_quantize([model, range, depth, channel], value.to_bits())
+        expected_quantize([model, range, depth, channel], value.to_bits(), cuts)
     }),
     dequantizes("depth 16 taken for 12", |setting, code, slot| {
         let [model, range, depth, channel] = setting;
         let depth = if depth == 16 { 12 } else { depth };
         expected_dequantize([model, range, depth, channel], code, slot)
     }),
-    quantizes("range 3 refused", |setting, value| match setting {
+    quantizes("range 3 refused", |setting, value, cuts| match setting {
         [_, 3, _, _] => refused(Refusal::Outside),
-        _ => expected_quantize(setting, value.to_bits()),
+        _ => expected_quantize(setting, value.to_bits(), cuts),
     }),
     dequantizes("range 3 refused", |setting, code, slot| match setting {
         [_, 3, _, _] => refused(Refusal::Outside),
         _ => expected_dequantize(setting, code, slot),
     }),
-    quantizes("range 4 taken for 3", |setting, value| {
+    quantizes("range 4 taken for 3", |setting, value, cuts| {
         let [model, range, depth, channel] = setting;
         let range = if range == 4 { 3 } else { range };
-        expected_quantize([model, range, depth, channel], value.to_bits())
+        expected_quantize([model, range, depth, channel], value.to_bits(), cuts)
     }),
     dequantizes("range 0 taken for 3", |setting, code, slot| {
         let [model, range, depth, channel] = setting;
@@ -338,7 +355,7 @@ pub const WRONG: &[Wrong] = &[
         "everything refused",
         Library {
             dequantize: |_, _, _| refused(Refusal::Outside),
-            quantize: |_, _| refused(Refusal::Outside),
+            quantize: |_, _, _| refused(Refusal::Outside),
             ..REFERENCE
         },
     ),
@@ -355,7 +372,7 @@ const fn dequantizes(
     (mistake, library)
 }
 
-pub const fn quantizes(mistake: &'static str, quantize: fn(Setting, f32) -> i64) -> Wrong {
+pub const fn quantizes(mistake: &'static str, quantize: Quantize) -> Wrong {
     let library = Library {
         quantize,
         ..REFERENCE

@@ -1,6 +1,8 @@
 -- `imurraqi_quantize` meets its contract, case by case of the answer. Assumes nothing.
 use borrow.Author.Needs.{needs}
+use mathlib.Core.Path.{refl}
 use native.Mathlib.Omega.{arith}
+use Rattle.lists.proofs.Counts.{byte-of}
 use Rattle.c_types.proofs.Numbers.{kept, passed}
 use Rattle.c_values.proofs.imurraqi_quantize.Statement.{statement}
 use Rattle.c_values.proofs.imurraqi_quantize.Tie as tie
@@ -8,8 +10,11 @@ use Rattle.c_values.proofs.imurraqi_quantize.Tie as tie
 quantize-requires : tie.Need-quantize-requires
 quantize-requires c κs = search needs
 
-enum-known-code : tie.Need-enum-known-code
-enum-known-code c = search needs
+enum-known-clamped : tie.Need-enum-known-clamped
+enum-known-clamped c = search needs
+
+cast-cuts : tie.Need-cast-cuts
+cast-cuts c = search needs
 
 cast-result : tie.Need-cast-result
 cast-result c = search needs
@@ -21,17 +26,22 @@ refused-requires : tie.Need-refused-requires
 refused-requires c κs = search needs
 
 returns : tie.Need-returns
-returns c = rw (← (c .before .before .before .quantize .ensures), c .before .code .given .1) (kept (c .before .code .given .0 .0) (omega arith))
+returns c =
+    let k = c .before .before .before .clamped .given in
+    rw (← (c .before .before .before .before .before .quantize .ensures), k .1) (kept (k .0 .0 .code) (omega arith), byte-of (k .0 .0 .cut))
 
 returns-2 : tie.Need-returns-2
-returns-2 c = rw (← (c .before .before .before .before .quantize .ensures), c .before .before .number .given .1) (passed (c .before .before .number .given .0 .0) (omega arith) (c .refused .result) (c .refused .ensures))
+returns-2 c =
+    let k = c .before .before .number .given in
+    rw (← (c .before .before .before .before .quantize .ensures), k .1) (passed (k .0 .0) (omega arith) (c .refused .result) (c .refused .ensures), refl)
 
 pub imurraqi-quantize-spec : {M : Type 1} → statement M
 imurraqi-quantize-spec =
     tie.close
     (tie.spec
     quantize-requires
-    enum-known-code
+    enum-known-clamped
+    cast-cuts
     cast-result
     enum-known-number
     refused-requires

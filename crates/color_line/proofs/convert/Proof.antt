@@ -15,10 +15,12 @@ same-length c = search needs
 
 returns : tie.Need-returns
 returns c =
-    c .before .before .points .ensures ∙ sym (stop _ (c .before .before .before .before .if1 .taken))
+    let p = c .before .before .points in
+    let t = c .before .before .before .before .if1 .taken in
+    (p .ensures .0 ∙ sym (stop _ t), p .ensures .1 ∙ sym (stop _ t))
 
 returns-2 : tie.Need-returns-2
-returns-2 c = sym (pass _ (c .if1 .left) refl)
+returns-2 c = (sym (pass _ (c .if1 .left) refl), sym (pass _ (c .if1 .left) refl))
 
 pub convert-spec : {M : Type 1} → statement M
 convert-spec = tie.close (tie.spec points-requires same-length returns returns-2)

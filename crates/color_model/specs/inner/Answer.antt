@@ -6,13 +6,14 @@ use lib.Dec.{leb}
 use lib.ListN.{length}
 use Rattle.lists.specs.Lists.{every}
 use Rattle.refusal.specs.Refusal.{wrongLineOrOutput, codeTooHigh}
-use Rattle.line.specs.declared.LineAnswer.{LineAnswer}
-use Rattle.line.specs.declared.LineAnswer.the-variants.{Points, Refused}
+use Rattle.line.specs.declared.ClampedAnswer.{ClampedAnswer}
+use Rattle.line.specs.declared.ClampedAnswer.the-variants.{Points, Refused}
 use Rattle.line.specs.Answer.{fitting}
+use Rattle.color_equations.specs.Line.{Converter, convertedCuts}
 
 -- 13, then 14
-abbrev pub answerUpTo : ℕ → List ℕ → ℕ → LineAnswer
-answerUpTo top cs output =
+abbrev pub answerUpTo : Converter → ℕ → List ℕ → ℕ → ClampedAnswer
+answerUpTo f top cs output =
     cond (not (fitting (length cs) 3 output 3)) (Refused wrongLineOrOutput)
     (cond (not (every (λ c. leb c top) cs)) (Refused codeTooHigh)
-    (Points (length cs / 3)))
+    (Points (length cs / 3) (convertedCuts f cs)))

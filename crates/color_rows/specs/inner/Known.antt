@@ -20,14 +20,14 @@ abbrev pub knownNumbers : ℕ → ℕ → ℕ → ℕ → KnownNumbers
 knownNumbers primaries n from to = cond (convertible primaries n from to) (TheNumbers (numbersOf primaries n from to)) NoNumbers
 
 -- the rows of a conversion, and the highest code that it takes; or that the paper has no such conversion
-abbrev pub toYcbcr : ℕ → ℕ → ℕ → ℕ → Conversion
-toYcbcr primaries n from to = record { rows = ycbcrRows (numbersOf primaries n from to); top = topOf n }
+abbrev pub ycbcrConversion : ℕ → ℕ → ℕ → ℕ → Conversion
+ycbcrConversion primaries n from to = record { rows = ycbcrRows (numbersOf primaries n from to); top = topOf n }
 
 abbrev pub knownToYcbcr : ℕ → ℕ → ℕ → ℕ → KnownConversion
-knownToYcbcr primaries n from to = cond (convertible primaries n from to) (Known (toYcbcr primaries n from to)) Unknown
+knownToYcbcr primaries n from to = cond (convertible primaries n from to) (Known (ycbcrConversion primaries n from to)) Unknown
 
-abbrev pub toRgb : ℕ → ℕ → ℕ → ℕ → Conversion
-toRgb primaries n from to = record { rows = rgbRows (numbersOf primaries n from to); top = topOf n }
+abbrev pub rgbConversion : ℕ → ℕ → ℕ → ℕ → Conversion
+rgbConversion primaries n from to = record { rows = rgbRows (numbersOf primaries n from to); top = topOf n }
 
 abbrev pub knownToRgb : ℕ → ℕ → ℕ → ℕ → KnownConversion
-knownToRgb primaries n from to = cond (convertible primaries n from to) (Known (toRgb primaries n from to)) Unknown
+knownToRgb primaries n from to = cond (convertible primaries n from to) (Known (rgbConversion primaries n from to)) Unknown

@@ -1,19 +1,19 @@
 -- The code's own arithmetic, on natural numbers and then in f64. A reader need not believe it: crates/color_rows_laws shows that it is `ycbcrOf` and `rgbOf`. Assumes nothing.
-use Prim.Native.Nat.{ℕ, _+_, _-_, _*_, _/_, _^_}
+use Prim.Native.Nat.{ℕ, _+_, _-_, _*_, _^_}
 use lib.IntN.{pos, _-ℤ_}
 use lib.Ieee.{Float, binary64, ofInt}
 use Rattle.layout.specs.declared.range.Range.{Range}
 use Rattle.layout.specs.declared.range.Range.the-variants.{Narrow, Full, LegacyFull}
 use Rattle.layout.specs.declared.kind.Kind.the-variants.{Brightness, Difference}
 use Rattle.layout.specs.Layout.{bitsOf, stepOf, topOf}
-use Rattle.fractions.specs.Fraction.{bounded}
 use Rattle.scales.specs.declared.scale.Scale.{Scale}
 use Rattle.scales.specs.Scale.{scaleOf}
+use Rattle.floats.specs.inner.Floor.{inFloats}
+use Rattle.scales.specs.inner.Floats.{endsOf}
 use Rattle.color_equations.specs.declared.weights.Weights.{Weights}
 use Rattle.color_equations.specs.Weights.{greenOf}
 use Rattle.color_line.specs.declared.row.FloatRow.{FloatRow}
 use Rattle.color_line.specs.declared.row.FloatRows.{FloatRows}
-use Rattle.color_rows.specs.declared.linear.Linear.{Linear}
 use Rattle.color_rows.specs.declared.linear.Value.{Value}
 use Rattle.color_rows.specs.declared.linear.Row.{Row}
 use Rattle.color_rows.specs.declared.numbers.Numbers.{Numbers}
@@ -22,18 +22,7 @@ use Rattle.color_rows.specs.inner.Green.{ratioOf, narrowGreenValue}
 
 -- ---- rows
 
--- the two sums of a linear sum at the codes x, y, z
-abbrev pub plusAt : Linear → ℕ → ℕ → ℕ → ℕ
-plusAt v x y z = v .plus0 * x + v .plus1 * y + v .plus2 * z + v .plus
-
-abbrev pub minusAt : Linear → ℕ → ℕ → ℕ → ℕ
-minusAt v x y z = v .minus0 * x + v .minus1 * y + v .minus2 * z + v .minus
-
--- the whole part of a row, within its ends
-abbrev pub wholeAt : Row → ℕ → ℕ → ℕ → ℕ
-wholeAt r x y z = bounded (r .low) (r .high) ((plusAt (r .sum) x y z - minusAt (r .sum) x y z) / r .over)
-
--- of a value on a scale, half a code more: 1/2 + span * value + base. It serves every range: the paper's two roundings differ only below 0, where both clamp to the low end.
+-- of a value on a scale, half a code more: 1/2 + span * value + base. It serves every range: the paper's two roundings differ only below 0, where both clamp to the low end, and what they take to be cut there the scale's ends tell.
 unfoldable pub codedOf : Value → ℕ → Scale → Row
 codedOf v span sc =
     record {
@@ -48,8 +37,7 @@ codedOf v span sc =
         minus = span * v .sum .minus;
       };
       over = 2 * v .half;
-      low = sc .low;
-      high = sc .high;
+      ends = endsOf sc;
     }
 
 -- on the scale's own span
@@ -69,8 +57,7 @@ floatsOf r =
       third = differenceOf (r .sum .plus2) (r .sum .minus2);
       more = differenceOf (r .sum .plus + 4096 * r .over) (r .sum .minus);
       over = ofInt binary64 (pos (r .over));
-      low = r .low;
-      high = r .high;
+      ends = inFloats (r .ends);
     }
 
 -- ---- to Y'CbCr, from a scale of R', G', B'

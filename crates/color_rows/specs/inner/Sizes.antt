@@ -17,8 +17,8 @@ pub record Fits (r : Row) (top : ℕ) : Type 0 where
   pub some : 0 < r .over
   pub over : r .over ≤ 2 ^ 40
   pub sums : (r .sum .plus0 + r .sum .minus0) * top + (r .sum .plus1 + r .sum .minus1) * top + (r .sum .plus2 + r .sum .minus2) * top + (r .sum .plus + r .sum .minus) + 4096 * r .over ≤ 2 ^ 53
-  pub ends : r .low ≤ r .high
-  pub high : r .high ≤ 4095
+  pub ends : r .ends .low ≤ r .ends .high
+  pub high : r .ends .high ≤ 4095
 
 -- a scale of the paper, whose base is at most `most`
 pub record SmallScale (sc : Scale) (most : ℕ) : Type 0 where

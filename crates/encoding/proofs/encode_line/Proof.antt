@@ -1,8 +1,8 @@
 -- `encoding::encode_line` meets its contract, row by row. Assumes nothing.
 use borrow.Author.Needs.{needs}
-use mathlib.Core.Path.{_≡_, sym, _∙_}
+use mathlib.Core.Path.{_≡_, sym, ap, _∙_}
 use mathlib.Core.Bool.{true}
-use Prim.Native.Nat.{_/_}
+use Prim.Native.Nat.{ℕ, _/_}
 use native.Mathlib.Nat.{mul-comm, mul-le-mul-right}
 use native.Mathlib.Omega.{arith}
 use borrow.Author.Tests.{not-true, not-false}
@@ -11,7 +11,11 @@ use Rattle.layout.specs.Layout.{validLayout}
 use Rattle.layout.proofs.Facts.{valid-says}
 use Rattle.scales.specs.inner.Fitted.{Fitted}
 use Rattle.scales.proofs.Scales.{scales-told, scales-unknown}
-use Rattle.line.proofs.Answers.{refuses, counts, fits}
+use Rattle.line.specs.inner.Cuts.{cutsTold}
+use Rattle.line.proofs.Answers.{refuses-clamped, counts-clamped, fits, all-told}
+use Rattle.line.specs.declared.ClampedAnswer.the-variants.{Points}
+use Rattle.encoding.specs.Encode.{cutsOf}
+use Rattle.encoding.proofs.Encodes.{cuts-most}
 use Rattle.encoding.proofs.Answers.{encode-outside, encode-unfit, encode-not-number, encode-points}
 use Rattle.encoding.proofs.encode_line.Statement.{statement}
 use Rattle.encoding.proofs.encode_line.Tie as tie
@@ -32,7 +36,7 @@ enum-told c = search needs
 returns : tie.Need-returns
 returns c =
     let o = c .before .before in
-    refuses _ _ (encode-outside _ _ _ (scales-unknown (o .before .before .before .args .layout) (sym (o .of .ensures) ∙ c .enum-told .given .1)))
+    refuses-clamped _ _ (encode-outside _ _ _ (scales-unknown (o .before .before .before .args .layout) (sym (o .of .ensures) ∙ c .enum-told .given .1)))
 
 cast-size : tie.Need-cast-size
 cast-size c = search needs
@@ -44,7 +48,7 @@ mul-if1 c =
     omega (arith, mul-le-mul-right (length (a .values .now) / 3) (valid-says (a .layout) (told s .0) .bytes-most))
 
 returns-2 : tie.Need-returns-2
-returns-2 c = refuses _ _ (encode-unfit _ _ _ (told (c .before .before .before) .0) (not-true _ (c .if1 .taken)))
+returns-2 c = refuses-clamped _ _ (encode-unfit _ _ _ (told (c .before .before .before) .0) (not-true _ (c .if1 .taken)))
 
 all-numbers-requires : tie.Need-all-numbers-requires
 all-numbers-requires c κs = search needs
@@ -52,7 +56,7 @@ all-numbers-requires c κs = search needs
 returns-3 : tie.Need-returns-3
 returns-3 c =
     let i = c .before .before in
-    refuses _ _ (encode-not-number _ _ _ (told (i .before .before .before) .0) (not-false _ (i .if1 .left)) (sym (c .before .all-numbers .ensures) ∙ not-true _ (c .if2 .taken)))
+    refuses-clamped _ _ (encode-not-number _ _ _ (told (i .before .before .before) .0) (not-false _ (i .if1 .left)) (sym (c .before .all-numbers .ensures) ∙ not-true _ (c .if2 .taken)))
 
 points-requires : tie.Need-points-requires
 points-requires c κs =
@@ -67,11 +71,21 @@ points-requires c κs =
 same-length : tie.Need-same-length
 same-length c = search needs
 
+cuts-told-requires : tie.Need-cuts-told-requires
+cuts-told-requires c κs = search needs
+
 returns-4 : tie.Need-returns-4
 returns-4 c =
-    let e = c .before .before .before .before in
+    let e = c .before .before .before .before .before in
     let i = e .before .before in
-    counts _ (encode-points _ _ _ (told (i .before .before .before) .0) (not-false _ (i .if1 .left)) (sym (e .before .all-numbers .ensures) ∙ not-false _ (e .if2 .left))) (c .before .before .points .ensures)
+    let a = i .before .before .before .before .before .before .before .before .args in
+    let p = c .before .before .before .points in
+    let fit = not-false _ (i .if1 .left) in
+    let h = fits (length (a .values .now)) 3 (length (a .out .now)) (a .layout .bytes) fit in
+    let told-all = all-told (length (a .values .now)) (length (a .values .now) / 3) (cutsOf (a .layout) (a .values .now)) (h .0) (h .1) (cuts-most (a .layout) (a .values .now)) in
+    counts-clamped _
+    (encode-points _ _ _ (told (i .before .before .before) .0) fit (sym (e .before .all-numbers .ensures) ∙ not-false _ (e .if2 .left)) ∙ ap (Points (length (a .values .now) / 3)) (sym (c .cuts-told .ensures ∙ ap cutsTold (p .ensures .0) ∙ told-all)))
+    (p .ensures .1)
 
 pub encode-line-spec : {M : Type 1} → statement M
 encode-line-spec =
@@ -87,5 +101,6 @@ encode-line-spec =
     all-numbers-requires
     returns-3
     points-requires
+    cuts-told-requires
     same-length
     returns-4)

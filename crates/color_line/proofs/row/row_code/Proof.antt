@@ -13,14 +13,14 @@ int-to-float-sum-2 c = search needs
 int-to-float-sum-3 : tie.Need-int-to-float-sum-3
 int-to-float-sum-3 c = search needs
 
-whole-within-requires : tie.Need-whole-within-requires
-whole-within-requires c κs = search needs
+clamp-requires : tie.Need-clamp-requires
+clamp-requires c κs = search needs
 
 returns : tie.Need-returns
 unfolding rowCode
-returns c = c .whole-within .ensures
+returns c = c .clamp .ensures
 
 pub row-code-spec : {M : Type 1} → statement M
 row-code-spec =
     tie.close
-    (tie.spec int-to-float-sum int-to-float-sum-2 int-to-float-sum-3 whole-within-requires returns)
+    (tie.spec int-to-float-sum int-to-float-sum-2 int-to-float-sum-3 clamp-requires returns)

@@ -24,12 +24,15 @@ add-difference c = search needs
 difference-requires-4 : tie.Need-difference-requires-4
 difference-requires-4 c κs = search needs
 
-int-to-float-t9 : tie.Need-int-to-float-t9
-int-to-float-t9 c = let s = c .before .before .before .before .before .before .before .before in held (s .args .row .over) (omega (arith, s .pre .all))
+int-to-float-t10 : tie.Need-int-to-float-t10
+int-to-float-t10 c = let s = c .before .before .before .before .before .before .before .before .before in held (s .args .row .over) (omega (arith, s .pre .all))
+
+floats-requires : tie.Need-floats-requires
+floats-requires c κs = search needs
 
 returns : tie.Need-returns
 unfolding floatsOf
-returns c = rw (c .before .before .before .before .before .before .difference .ensures, c .before .before .before .before .before .difference2 .ensures, c .before .before .before .before .difference3 .ensures, c .before .difference4 .ensures)
+returns c = rw (c .before .before .before .before .before .before .before .difference .ensures, c .before .before .before .before .before .before .difference2 .ensures, c .before .before .before .before .before .difference3 .ensures, c .before .before .difference4 .ensures, c .floats .ensures)
 
 pub floats-spec : {M : Type 1} → statement M
 floats-spec =
@@ -41,5 +44,6 @@ floats-spec =
     mul-difference
     add-difference
     difference-requires-4
-    int-to-float-t9
+    int-to-float-t10
+    floats-requires
     returns)

@@ -3,7 +3,9 @@ use borrow.Author.Needs.{needs}
 use mathlib.Core.Path.{sym, ap, _∙_, subst}
 use lib.Dec.{T}
 use lib.Ieee.{binary32, fits}
-use Rattle.quantization.specs.Code.{codeOr}
+use Rattle.scales.specs.declared.code.FloatScale.{FloatScale}
+use Rattle.scales.specs.inner.Floats.{codeIn}
+use Rattle.quantization.specs.declared.code.Coded.the-variants.{Code}
 use Rattle.quantization.proofs.Codes.{float-code}
 use Rattle.encoding.proofs.encode.code_of_number.Statement.{statement}
 use Rattle.encoding.proofs.encode.code_of_number.Tie as tie
@@ -21,7 +23,7 @@ code-requires c κs = search needs
 returns : tie.Need-returns
 returns c =
     let s = c .before .before in
-    c .code .ensures ∙ ap (codeOr 0) (float-code (s .args .scale) (s .pre .0) (s .args .value) (held s) (s .pre .1))
+    λ sc fine is. ap Code (c .code .ensures ∙ ap (λ (f : FloatScale). codeIn f (s .args .value)) is) ∙ float-code sc fine (s .args .value) (held s) (s .pre)
 
 pub code-of-number-spec : {M : Type 1} → statement M
 code-of-number-spec = tie.close (tie.spec float-to-float-code code-requires returns)
