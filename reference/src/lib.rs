@@ -5,6 +5,7 @@
 //! plainness to speed: every number is an exact fraction, every float is its
 //! 32 bits, and no float arithmetic is done anywhere.
 
+pub mod bound;
 pub mod card;
 pub mod color;
 pub mod descriptor;

@@ -3,6 +3,7 @@
 use std::env;
 use std::process::ExitCode;
 
+use reference::bound;
 use reference::card::{self, Facts};
 use reference::color;
 use reference::descriptor;
@@ -23,6 +24,7 @@ usage: reference dequantize MODEL RANGE DEPTH CHANNEL CODE
        reference encode LAYOUT VALUE...
        reference ycbcr CONVERSION CODE...
        reference rgb CONVERSION CODE...
+       reference there-and-back WAY CODE CODE CODE
        reference write LAYOUT
        reference read BYTES
        reference write-card EDITION LAYOUT WIDTH HEIGHT ITEM ACCESS
@@ -39,12 +41,16 @@ LAYOUT      model, primaries, range, depth, bytes a point, three bit offsets, as
             1,1,2,8,3,0,8,16
 CONVERSION  primaries, depth, range of the given codes, range of the codes made, as
             in 1,8,2,2
+WAY         primaries, depth, range of the R'G'B' codes, range of the Y'CbCr codes, as in
+            1,8,2,1
 EDITION     1, 2 or 3
 ACCESS      0 closed, 1 community, 2 open
 BYTES       hexadecimal digits, two a byte: packed points, the bytes of a field, or a
             descriptor, a card or a stack to read
 quantize, encode, ycbcr and rgb also tell how many values were cut: those whose rounded
-number lay outside the span to which it is clamped, and infinities";
+number lay outside the span to which it is clamped, and infinities
+there-and-back tells the Y'CbCr codes of R'G'B' codes, the R'G'B' codes of those, by how
+much each has moved and, if the ranges and codes have a bound, by how much at most it may";
 
 fn main() -> ExitCode {
     let arguments: Vec<String> = env::args().skip(1).collect();
@@ -106,6 +112,10 @@ fn answer(arguments: &[&str]) -> Option<Result<String, Refusal>> {
             let mut rgb = vec![0; ycbcr.len()];
             let counts = color::ycbcr_to_rgb(numbers(conversion)?, &ycbcr, &mut rgb);
             Some(counts.map(|counts| with_cuts(&separated(&rgb, " "), counts.cuts)))
+        }
+        ["there-and-back", way, ref given @ ..] => {
+            let given = codes(given)?.try_into().ok()?;
+            Some(there_and_back(numbers(way)?, given))
         }
         ["write", layout] => Some(write(numbers(layout)?)),
         ["read", descriptor] => {
@@ -185,6 +195,17 @@ fn encode(layout: [u8; 8], values: &[u32]) -> Result<String, Refusal> {
 /// What was made, and how many of its values were cut.
 fn with_cuts(made: &str, cuts: usize) -> String {
     format!("{made}, {cuts} cut")
+}
+
+fn there_and_back(way: bound::Way, given: [u16; 3]) -> Result<String, Refusal> {
+    let trip = bound::there_and_back(way, given)?;
+    let [there, back, moved] = [trip.ycbcr, trip.rgb, bound::moved(given, trip.rgb)]
+        .map(|numbers| separated(&numbers, " "));
+    let most = match bound::most(way, given) {
+        Some(most) => format!("of at most {most}"),
+        None => "without a bound".to_string(),
+    };
+    Ok(format!("{there}, back {back}, moved {moved} {most}"))
 }
 
 fn write(layout: [u8; 8]) -> Result<String, Refusal> {

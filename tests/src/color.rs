@@ -12,6 +12,7 @@ use crate::library::{Conversion, Direction, Library};
 use crate::part::{part, Part};
 use crate::tally::{Flow, Tally};
 
+pub mod bound;
 mod cuts;
 mod examples;
 pub mod exhaustive;
@@ -38,13 +39,15 @@ pub const PARTS: &[Part] = &[
     part("colors, lengths around 4,096", lengths::long_lines),
     part("colors, random at 10 and 12 bits", values::random),
     part("colors, grid at 8 bits", values::in_steps),
+    bound::EXAMPLES,
+    bound::POINTS,
 ];
 
-/// The part that goes through a whole domain.
-pub const WHOLE_PARTS: &[Part] = &[part(
-    "colors, one conversion whole",
-    exhaustive::one_conversion,
-)];
+/// The parts that go through a whole domain.
+pub const WHOLE_PARTS: &[Part] = &[
+    part("colors, one conversion whole", exhaustive::one_conversion),
+    bound::WHOLE,
+];
 
 /// The parts that need no library.
 pub const REFERENCE_PARTS: &[Part] = &[part("printed matrices", printed::document_003)];

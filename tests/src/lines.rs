@@ -17,6 +17,7 @@ mod examples;
 pub mod inputs;
 mod lengths;
 mod refusals;
+pub mod rising;
 mod shapes;
 mod values;
 
@@ -47,6 +48,7 @@ pub const PARTS: &[Part] = &[
     part("lines, 4,096 points", shapes::long_lines),
     part("lines, lengths around 4,096", lengths::long_lines),
     part("lines, every layout", shapes::every_layout),
+    rising::PART,
 ];
 
 const MOST_POINTS: usize = 4096;

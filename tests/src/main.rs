@@ -92,6 +92,9 @@ fn run(part: &Part) -> Tally {
     // This tally never stops early.
     let _ = (part.run)(&LINKED, &mut tally);
     println!("{:36}{:9} comparisons", part.name, tally.comparisons);
+    for found in &tally.found {
+        println!("  {found}");
+    }
     show_differences(&tally);
     tally
 }

@@ -16,6 +16,7 @@ pub mod exhaustive;
 pub mod floats;
 mod reference_itself;
 mod refusals;
+pub mod rising;
 
 /// The parts that try a library, the quick ones first: most wrong programs are
 /// caught by them.
@@ -33,6 +34,7 @@ pub const PARTS: &[Part] = &[
     part("dequantize, every code", codes::every_code),
     part("refusals, inputs in pairs", refusals::pairs),
     part("quantize, random floats", floats::random),
+    rising::PART,
 ];
 
 /// The parts that need no library: the reference is compared with itself.

@@ -7,7 +7,7 @@ use std::thread;
 use crate::library::Library;
 use crate::part::{library_parts, Part};
 use crate::tally::Tally;
-use crate::wrong::{RIGHT, WRONG};
+use crate::wrong::{RIGHT, RIGHT_FOR, WRONG};
 
 /// A program with the parts that try it.
 struct Trial {
@@ -35,10 +35,16 @@ pub fn run() -> bool {
 }
 
 fn right_trials() -> impl Iterator<Item = Trial> {
-    RIGHT.iter().map(|library| Trial {
+    let for_all = RIGHT
+        .iter()
+        .map(|library| (library_parts().collect(), library));
+    let for_some = RIGHT_FOR
+        .iter()
+        .map(|(parts, library)| (parts.iter().collect(), library));
+    for_all.chain(for_some).map(|(parts, library)| Trial {
         mistake: None,
         library,
-        parts: library_parts().collect(),
+        parts,
     })
 }
 

@@ -13,6 +13,8 @@ pub struct Tally {
     pub differences: u64,
     /// The first differences, each with all its inputs.
     pub first: Vec<String>,
+    /// What was found besides, to be shown.
+    pub found: Vec<String>,
     stops_early: bool,
 }
 
@@ -40,6 +42,10 @@ impl Tally {
         } else {
             Flow::Continue(())
         }
+    }
+
+    pub fn tell(&mut self, found: String) {
+        self.found.push(found);
     }
 
     pub fn add(&mut self, other: Tally) {

@@ -19,6 +19,8 @@ use crate::plain::PLAIN;
 use crate::quantization::{self as values, expected_dequantize, expected_quantize};
 use crate::stack::{self as stacks, expected_find};
 
+mod bound;
+mod bound_whole;
 mod card_access;
 mod card_read;
 mod card_read_refusals;
@@ -48,6 +50,7 @@ mod list;
 mod pack;
 mod points;
 mod quantization;
+mod rising;
 mod stack;
 mod stack_refusals;
 mod unpack;
@@ -80,6 +83,9 @@ pub const REFERENCE: Library = Library {
 
 pub const RIGHT: &[Library] = &[REFERENCE, PLAIN];
 
+/// Programs that are right for some parts alone.
+pub const RIGHT_FOR: &[(&[Part], Library)] = &[(&[colors::bound::WHOLE], bound_whole::RIGHT)];
+
 /// The wrong programs of each subject, with the parts that must catch them.
 pub const WRONG: &[(&[Part], &[Wrong])] = &[
     (values::PARTS, quantization::WRONG),
@@ -87,6 +93,7 @@ pub const WRONG: &[(&[Part], &[Wrong])] = &[
     (values::PARTS, cuts::QUANTIZING),
     (values::PARTS, cut_values::QUANTIZING),
     (values::PARTS, cut_stores::QUANTIZING),
+    (&[values::rising::PART], rising::QUANTIZING),
     (fields::PARTS, field::WRONG),
     (fields::PARTS, field_bytes::WRONG),
     (fields::PARTS, field_code::WRONG),
@@ -101,6 +108,8 @@ pub const WRONG: &[(&[Part], &[Wrong])] = &[
     (lines::PARTS, cut_counts::ENCODING_A_POINT),
     (lines::PARTS, cut_stores::ENCODING),
     (lines::PARTS, cut_stores::ENCODING_A_LINE),
+    (&[lines::rising::PART], rising::ENCODING),
+    (&[lines::rising::PART], rising::IN_LINES),
     (descriptors::PARTS, descriptor::WRONG),
     (colors::PARTS, color::WRONG),
     (colors::PARTS, ends::CONVERTING),
@@ -114,6 +123,10 @@ pub const WRONG: &[(&[Part], &[Wrong])] = &[
     (colors::PARTS, color_reckoning::WRONG),
     (colors::PARTS, color_lines::WRONG),
     (colors::PARTS, color_refusals::WRONG),
+    (&[colors::bound::POINTS], bound::IN_PIECES),
+    (&[colors::bound::POINTS], bound::WRONG),
+    (&[colors::bound::EXAMPLES], bound::UNLIKE_EXAMPLES),
+    (&[colors::bound::WHOLE], bound_whole::WRONG),
     (cards::PARTS, card_access::WRONG),
     (cards::PARTS, card_read::WRONG),
     (cards::PARTS, card_read_refusals::WRONG),

@@ -1,17 +1,18 @@
 -- A line converted point by point, and its cuts. Assumes nothing.
-use mathlib.Core.Path.{_≡_, ap, ap₂, _∙_}
+use mathlib.Core.Path.{_≡_, ap, _∙_}
 use mathlib.Core.Bool.{Bool}
 use mathlib.Core.List.{List}
-use Prim.Native.Nat.{ℕ, _+_, _*_, _/_, _%_, _≤_, _<_}
+use Prim.Native.Nat.{ℕ, _+_, _*_, _≤_, _<_}
 use native.Mathlib.Nat.{add-zero}
 use native.Mathlib.Omega.{arith}
 use mir.Val.{boolByte}
-use lib.ListN.{length, getD}
+use lib.ListN.{length}
 use Rattle.lists.specs.Lists.{tabulate, oneIf, count}
 use Rattle.lists.proofs.Counts.{byte-of, one-le, count-point}
 use Rattle.lists.proofs.Filled.{Filled, filled-all}
 use Rattle.fractions.specs.declared.Clamped.{Clamped}
-use Rattle.color_equations.specs.Line.{Converter, convertedAt, convertedOf, convertedCuts}
+use Rattle.color_equations.specs.Line.{Converter, convertedOf, convertedCuts}
+use Rattle.color_equations.proofs.Points.{pointAt, converted-at}
 use Rattle.color_line.specs.declared.row.Triple.{Triple}
 use Rattle.color_line.specs.inner.Rows.{codeAt, cutAt, pointBy, pointOf}
 
@@ -26,19 +27,7 @@ point-is g e f h = λ i. record {
 pub byte-le : (b : Bool) → boolByte b ≤ 1
 byte-le b = omega (arith, byte-of b, one-le b)
 
--- the three codes of point i, converted
-abbrev pub pointAt : Converter → List ℕ → ℕ → ℕ → Clamped
-pointAt f cs i = f (getD cs (3 * i) 0) (getD cs (3 * i + 1) 0) (getD cs (3 * i + 2) 0)
-
 module _ (f : Converter) (cs : List ℕ) where
-  -- code 3 i + j is channel j of point i
-  pub converted-at : (i j : ℕ) → j < 3 → pointAt f cs i j ≡ convertedAt f cs (3 * i + j)
-  unfolding convertedAt
-  converted-at i j h =
-      let q : i ≡ (3 * i + j) / 3 = omega arith in
-      let r : j ≡ (3 * i + j) % 3 = omega arith in
-      ap₂ (pointAt f cs) q r
-
   -- all turns
   pub converted-all : (out xs : List ℕ) (i n : ℕ) → length cs ≡ 3 * n → length out ≡ 3 * n → n ≤ i → i ≤ n → Filled out (codeAt f cs) (3 * i) xs → xs ≡ convertedOf f cs
   unfolding convertedOf
@@ -50,7 +39,7 @@ module _ (f : Converter) (cs : List ℕ) where
   pub cuts-more : (i : ℕ) {p : Triple} {next : ℕ} → p ≡ pointOf f cs i → i + 1 ≡ next → count (3 * i) (cutAt f cs) + p .cuts ≡ count (3 * next) (cutAt f cs)
   unfolding pointOf
   cuts-more i e g =
-      let at : (j : ℕ) → j < 3 → oneIf (pointAt f cs i j .cut) ≡ oneIf (cutAt f cs (3 * i + j)) = λ j h. ap (λ (x : Clamped). oneIf (x .cut)) (converted-at i j h) in
+      let at : (j : ℕ) → j < 3 → oneIf (pointAt f cs i j .cut) ≡ oneIf (cutAt f cs (3 * i + j)) = λ j h. ap (λ (x : Clamped). oneIf (x .cut)) (converted-at f cs i j h) in
       omega (
         arith,
         ap (λ (x : Triple). x .cuts) e,

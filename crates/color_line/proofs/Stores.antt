@@ -17,10 +17,10 @@ use Rattle.lists.proofs.Filled.{Filled, filled-wide}
 use Rattle.fractions.specs.declared.Clamped.{Clamped}
 use Rattle.color_equations.specs.Line.{Converter}
 use Rattle.floats.specs.inner.Floor.{wholeOf, clampedBy}
+use Rattle.color_equations.proofs.Points.{pointAt, converted-at}
 use Rattle.color_line.specs.declared.row.FloatRow.{FloatRow}
 use Rattle.color_line.specs.declared.row.FloatRows.{FloatRows}
 use Rattle.color_line.specs.inner.Rows.{rowCode, rowsCode, alike, codeAt, numberOf, pointOf, shortOf, storedOf}
-use Rattle.color_line.proofs.Lines.{pointAt, converted-at}
 
 module _ (v : List ℕ) (i : ℕ) (xs : List ℕ) where
   pub length-stored : (k : ℕ) → length (storedOf v i k xs) ≡ length xs

@@ -5,23 +5,24 @@ use Prim.Native.Nat.{ℕ, _+_, _-_, _*_, _/_, _≤_, _<_}
 use native.Mathlib.Nat.{mul-assoc, mul-left-comm, mul-add, add-mul, mul-pos, mul-div-mul-right}
 use native.Mathlib.Omega.{arith}
 use lib.Dec.{lit<}
-use lib.IntN.{pos, _-ℤ_}
 use Rattle.layout.specs.declared.range.Range.{Range}
 use Rattle.layout.specs.declared.range.Range.the-variants.{Narrow, Full, LegacyFull}
 use Rattle.layout.specs.declared.kind.Kind.the-variants.{Brightness, Difference}
 use Rattle.layout.proofs.Depths.{Steps}
-use Rattle.fractions.specs.Fraction.{Fraction, Same, _over_, bounded}
+use Rattle.fractions.specs.Fraction.{Fraction, bounded}
 use Rattle.fractions.proofs.Cuts.{outside, outside-same}
+use Rattle.fractions.proofs.Same.{Is, is-also}
 use Rattle.floats.specs.declared.Ends.{Ends}
 use Rattle.scales.specs.declared.scale.Scale.{Scale}
 use Rattle.scales.specs.Scale.{scaleOf}
 use Rattle.scales.specs.inner.Floats.{strictly, endsOf}
 use Rattle.quantization.specs.Code.{codeOfValue}
+use Rattle.quantization.proofs.Codes.{clamped-is}
 use Rattle.color_equations.specs.declared.weights.Weights.{Weights}
 use Rattle.color_equations.specs.Weights.{greenOf}
 use Rattle.color_equations.specs.Equations.{lumaOf, chromaOf, primaryOf, greenFrom}
 use Rattle.color_equations.specs.Conversion.{brightness, difference}
-use Rattle.color_equations.proofs.Whole.{code-of-same, luma-whole, luma-den, cb-whole, cr-whole, chroma-den, primary-whole, primary-den, green-whole, green-den}
+use Rattle.color_equations.proofs.Whole.{luma-whole, luma-den, cb-whole, cr-whole, chroma-den, primary-whole, primary-den, green-whole, green-den}
 use Rattle.color_rows.specs.declared.linear.Value.{Value}
 use Rattle.color_rows.specs.declared.rgb.Spread.{Spread}
 use Rattle.color_rows.specs.inner.Rows.{codedOf, codeRow, lumaValue, cbValue, crValue, spreadOf, redValue, greenValue, blueValue}
@@ -70,13 +71,13 @@ module _ (v : Value) (sc : Scale) (x y z : ℕ) where
   E = endsOf sc
 
   -- the whole part of a value's row is its code, and it is cut where the code is
-  channel : (strictly (sc .rounding) ≡ true → sc .low ≡ 0) → (f : Fraction) (p n c : ℕ) → P ≡ p → M ≡ n → 2 * v .half ≡ c → 0 < c → 0 < f .den → Same f (pos p -ℤ pos n over c)
+  channel : (strictly (sc .rounding) ≡ true → sc .low ≡ 0) → (f : Fraction) (p n c : ℕ) → P ≡ p → M ≡ n → 2 * v .half ≡ c → 0 < c → 0 < f .den → Is f p n c
       → clampedAt (codeRow v sc) x y z ≡ codeOfValue sc f
   unfolding codedOf
   channel zero f p n c ep en ec C D e =
       ap₂ (clampedBy E (2 * v .half)) plus-is minus-is
       ∙ (λ i. record { code = bounded (sc .low) (sc .high) (code i); cut = cuts i })
-      ∙ sym (code-of-same sc zero f P M (2 * v .half) D (omega arith) (rw (ep, en, ec) e))
+      ∙ sym (clamped-is sc zero (is-also P M (2 * v .half) (ap₂ (λ (i j : ℕ). i + j) (sym ep) en) (sym ec) e) D (omega arith))
     where
       code : (sc .span * P + half - sc .span * M) / (2 * v .half) ≡ (twice-plus - 2 * (sc .span * M)) / (2 * (2 * v .half))
       code = sym (mul-div-mul-right (sc .span * P + half - sc .span * M) (2 * v .half) (lit< tt)) ∙ ap₂ (λ (s t : ℕ). s / t) doubled (omega arith)

@@ -28,7 +28,7 @@ use Rattle.quantization.specs.Code.{codeOfValue, codeOf}
 use Rattle.scales.specs.Channel.{channelKnownAt, channelScale}
 use Rattle.quantization.specs.Answer.{named, dequantized, orRefused, quantized}
 use Rattle.scales.proofs.Scales.{ends, fine}
-use Rattle.quantization_laws.specs.Claims.{Dequantizes, Quantizes, QuantizesOthers, QuantizesWithinEnds, CutsToAnEnd, ZeroIsPlus, Returns, ReturnsEvery, ReturnsExcluded}
+use Rattle.quantization_laws.specs.Claims.{Dequantizes, Quantizes, QuantizesOthers, QuantizesWithinEnds, CutsToAnEnd, ZeroIsPlus, Returns, ReturnsEvery, ReturnsExcluded, QuantizingRises}
 use Rattle.quantization_laws.specs.Printed.{printedValue, printedUnclamped, printedLow, printedHigh}
 use Rattle.quantization_laws.specs.Pattern.{patternValue}
 use Rattle.quantization_laws.proofs.Printed.{value-printed, printed-over, unclamped-printed, ends-printed, Kept, code-kept, included-code, excluded-code}
@@ -36,6 +36,7 @@ use Rattle.quantization_laws.proofs.Pattern.{pattern-code}
 use Rattle.quantization_laws.proofs.Return.{code-returns}
 use Rattle.quantization_laws.proofs.Nearest.{code-nearest, zero-plus}
 use Rattle.quantization_laws.proofs.Distances.{nearest-same}
+use Rattle.quantization_laws.proofs.Rising.{codes-rise}
 
 -- what a known channel says of its depth: the laws are proved for depths from 8 to 12
 pub record Says (n : ℕ) : Type 0 where
@@ -176,3 +177,11 @@ pub returns-excluded : ReturnsExcluded
 returns-excluded model range n channel c v e x =
     let b = comes-back model range n channel c v e in
     b .back ∙ ap Code (excluded-code n (b .known .depth-known) (rangeOf range) c x)
+
+-- every scale of the paper has its low end not above its high end
+pub quantizing-rises : QuantizingRises
+unfolding quantized
+quantizing-rises model range n channel x y e h =
+    let d = says model range n channel e in
+    let (a, b, p, q, l) = codes-rise (channelScale model range n channel) x y (fine (rangeOf range) (kindOf model channel) n (d .stepped) .order) h in
+    (a, b, pass _ (ap not e) (ap orRefused p), pass _ (ap not e) (ap orRefused q), l)

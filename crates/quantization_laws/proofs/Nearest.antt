@@ -15,7 +15,7 @@ use lib.Ieee.Exact.{HasValue}
 use lib.Ieee.Scale.{grid, round-same}
 use Rattle.lists.proofs.Numbers.{sub-mul}
 use Rattle.fractions.specs.Fraction.{_over_, Same}
-use Rattle.fractions.proofs.Integers.{minus-cases, as-pos, as-neg, minus}
+use Rattle.fractions.proofs.Integers.{minus-cases, minus}
 use Rattle.layout.specs.declared.range.Range.{Range}
 use Rattle.layout.specs.declared.kind.Kind.{Kind}
 use Rattle.layout.specs.Layout.{topOf}
@@ -27,24 +27,11 @@ use Rattle.quantization.specs.Code.{signed, exact}
 use Rattle.quantization.proofs.Codes.{Small}
 use Rattle.quantization_laws.specs.Nearest.{distance, Nearer, NearestTo}
 use Rattle.quantization_laws.proofs.Units.{U, round-value}
-use Rattle.quantization_laws.proofs.Values.{gap, by-sign, value-rounds}
+use Rattle.quantization_laws.proofs.Values.{plusPart, minusPart, as-parts, gap, by-sign, value-rounds}
 use Rattle.quantization_laws.proofs.Closest.{Held, held, Beats, beats, Faces, faces}
 use Rattle.quantization_laws.proofs.Return.{paper}
 
 -- ---- distances of signed numbers
-plusPart : Bool → ℕ → ℕ
-plusPart false x = x
-plusPart true x = 0
-
-minusPart : Bool → ℕ → ℕ
-minusPart false x = 0
-minusPart true x = x
-
-as-parts : (s : Bool) (x : ℕ) → signed s x ≡ pos (plusPart s x) -ℤ pos (minusPart s x)
-unfolding plusPart minusPart
-as-parts false x = as-pos x x 0 (omega arith)
-as-parts true x = as-neg x 0 x (omega arith)
-
 size-of : (s t : Bool) (x y : ℕ) → natAbs (signed s x -ℤ signed t y) ≡ gap (plusPart s x + minusPart t y) (minusPart s x + plusPart t y)
 size-of s t x y =
     ap (λ (z : ℤ). natAbs z)
@@ -63,12 +50,10 @@ distance-is : (s t : Bool) (a b d p : ℕ) → distance (signed s a over b) (sig
 distance-is s t a b d p = ap₂ (λ (x y : ℤ). natAbs (x -ℤ y)) (signed-times s a p) (signed-times t d b) ∙ size-of s t (a * p) (d * b)
 
 same-sign : (s : Bool) (a b d p : ℕ) → distance (signed s a over b) (signed s d over p) ≡ gap (a * p) (d * b)
-unfolding plusPart minusPart
 same-sign false a b d p = distance-is false false a b d p ∙ omega arith
 same-sign true a b d p = distance-is true true a b d p ∙ omega arith
 
 other-sign : (s t : Bool) (a b d p : ℕ) → (s ≡ t → ⊥) → distance (signed s a over b) (signed t d over p) ≡ a * p + d * b
-unfolding plusPart minusPart
 other-sign false false a b d p n = absurd (n refl)
 other-sign false true a b d p n = distance-is false true a b d p ∙ omega arith
 other-sign true false a b d p n = distance-is true false a b d p ∙ omega arith

@@ -97,7 +97,7 @@ pub record Kept (low high : ℕ) (c : Clamped) : Type 0 where
   pub within : (low ≤ c .code) × (c .code ≤ high)
   pub cut : c .cut ≡ true → (c .code ≡ low) ⊎ (c .code ≡ high)
 
-kept : (low high : ℕ) → low ≤ high → (z : ℤ) → Kept low high (clamped low high z)
+pub kept : (low high : ℕ) → low ≤ high → (z : ℤ) → Kept low high (clamped low high z)
 kept low high h (negsuc m) = record { within = omega arith; cut = λ t. inl refl }
 kept low high h (pos m) = record { within = omega arith; cut = go (ltb m low) refl }
   where
@@ -182,9 +182,6 @@ module _ (n : ℕ) (d : depthKnown n ≡ true) where
       let e = ends r k n in
       let f = ends-printed r in
       subst (Kept (printedLow r n) (printedHigh r n)) (λ i. clamped (sym (e .0 ∙ f .0) i) (sym (e .1 ∙ f .1) i) (unclamped sc v)) (kept (printedLow r n) (printedHigh r n) (ordered r) (unclamped sc v))
-
-  pub value-within : (r : Range) (k : Kind) (v : Fraction) → WithinEnds r n (codeOfValue (scaleOf r n k) v .code)
-  value-within r k v = value-kept r k v .within
 
   pub code-kept : (r : Range) (k : Kind) (v : Float) (c : Clamped) → codeOf (scaleOf r n k) v ≡ Code c → Kept (printedLow r n) (printedHigh r n) c
   unfolding codeOf

@@ -1,16 +1,30 @@
 -- The value of a code as a sign and a fraction of natural numbers. Assumes nothing.
 use mathlib.Core.Path.{_≡_, _∙_}
+use mathlib.Core.Bool.{Bool, true, false}
 use Prim.Native.Nat.{ℕ, suc, _+_, _-_, _<_}
 use native.Mathlib.Omega.{arith}
 use borrow.Author.Tests.{lt-ltb, le-ltb}
 use lib.Dec.{ltb}
 use lib.IntN.{ℤ, pos, _-ℤ_}
 use lib.Ieee.{binary32, round}
-use Rattle.fractions.proofs.Integers.{minus-cases}
+use Rattle.fractions.proofs.Integers.{minus-cases, as-pos, as-neg}
 use Rattle.scales.specs.declared.scale.Scale.{Scale}
 use Rattle.scales.specs.Value.{rounded, valueOf}
 use Rattle.quantization.specs.Code.{signed}
 use Rattle.scales.proofs.Quotients.{over-some}
+
+-- a number with a sign as a difference
+abbrev pub plusPart : Bool → ℕ → ℕ
+plusPart false x = x
+plusPart true x = 0
+
+abbrev pub minusPart : Bool → ℕ → ℕ
+minusPart false x = 0
+minusPart true x = x
+
+pub as-parts : (s : Bool) (x : ℕ) → signed s x ≡ pos (plusPart s x) -ℤ pos (minusPart s x)
+as-parts false x = as-pos x x 0 (omega arith)
+as-parts true x = as-neg x 0 x (omega arith)
 
 -- |a - b|
 abbrev pub gap : ℕ → ℕ → ℕ

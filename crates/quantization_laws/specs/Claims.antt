@@ -1,20 +1,24 @@
--- What is claimed of one value: demand 2, in the terms of document 01 and requests A1, A2 and A4, of the definitions that the entries' contracts cite. proofs/Claims.antt proves each. Assumes nothing.
+-- What is claimed of one value: demand 2, in the terms of document 01 and requests A1, A2, A4 and A5, of the definitions that the entries' contracts cite. proofs/Claims.antt proves each but `CodesRise` and `MachineOrders`, which Rising.antt proves. Assumes nothing.
 use Prim.Native.Nat.{ℕ, _≤_, _<_}
 use mathlib.Core.Bool.{true, false}
 use mathlib.Core.Path.{_≡_}
 use mathlib.Core.Logic.{_⊎_}
 use lib.IntN.{pos}
-use lib.Ieee.{Float, nan, inf, fin, binary32, ofBits}
+use lib.Ieee.{Float, nan, inf, fin, binary32, ofBits, le}
 use Rattle.fractions.specs.declared.Clamped.{Clamped}
 use Rattle.fractions.specs.Fraction.{clamped}
 use Rattle.layout.specs.Layout.{rangeOf, kindOf, topOf}
 use Rattle.refusal.specs.Refusal.{notANumber}
+use Rattle.quantization.specs.declared.code.Coded.the-variants.{Code as Found}
 use Rattle.quantization.specs.declared.Quantized.the-variants.{Code, Refused}
+use Rattle.scales.specs.declared.scale.Scale.{Scale}
 use Rattle.scales.specs.Channel.{channelKnownAt}
+use Rattle.quantization.specs.Code.{codeOf}
 use Rattle.quantization.specs.Answer.{named, dequantized, quantized}
 use Rattle.quantization_laws.specs.Printed.{printedValue, printedUnclamped, printedLow, printedHigh, WithinEnds, nearerEnd, excluded}
 use Rattle.quantization_laws.specs.Nearest.{NearestTo}
 use Rattle.quantization_laws.specs.Pattern.{fieldOf, patternValue}
+use Rattle.quantization_laws.specs.Order.{NoHigher}
 
 -- a code of a known channel becomes a float, under the name of its kind, that is the nearest of all floats to the fraction in the paper's line
 abbrev pub Dequantizes : Type 0
@@ -71,3 +75,21 @@ abbrev pub ReturnsExcluded : Type 0
 ReturnsExcluded =
     (model range n channel c : ℕ) (v : Float) → dequantized model range n channel c ≡ named (kindOf model channel) v
     → excluded (rangeOf range) n c ≡ true → quantized model range n channel v ≡ Code (record { code = nearerEnd (rangeOf range) n c; cut = true })
+
+-- ---- quantizing never falls as the value rises, infinities included (A5)
+
+-- of two floats in order both have codes, and these are in order: on any scale whose low end is not above its high end,
+abbrev pub CodesRise : Type 0
+CodesRise =
+    (sc : Scale) (x y : Float) → sc .low ≤ sc .high → NoHigher x y
+    → (a : Clamped) × (b : Clamped) × (codeOf sc x ≡ Found a) × (codeOf sc y ≡ Found b) × (a .code ≤ b .code)
+
+-- and so what quantizing answers at every channel of the paper
+abbrev pub QuantizingRises : Type 0
+QuantizingRises =
+    (model range n channel : ℕ) (x y : Float) → channelKnownAt model range n channel ≡ true → NoHigher x y
+    → (a : Clamped) × (b : Clamped) × (quantized model range n channel x ≡ Code a) × (quantized model range n channel y ≡ Code b) × (a .code ≤ b .code)
+
+-- wherever IEEE 754's comparison, the machine's x <= y, is true, the floats are in this order
+abbrev pub MachineOrders : Type 0
+MachineOrders = (x y : Float) → le x y ≡ true → NoHigher x y

@@ -6,7 +6,7 @@ use crate::guarded::{Guarded, Outcome};
 use crate::library::{Conversion, Direction, Library, CUTS};
 use crate::tally::{Flow, Tally};
 
-use super::{compare_all, conversions_of, expected_convert, MOST_POINTS};
+use super::{compare_all, conversions_of, expected_convert, inputs, MOST_POINTS};
 
 /// The triples in one line.
 pub const TRIPLES: u32 = MOST_POINTS as u32;
@@ -71,13 +71,5 @@ fn cuts_of_one(codes: &[u16]) -> usize {
 
 /// The codes of a line of triples.
 fn triples(line: u32) -> Vec<u16> {
-    (line * TRIPLES..(line + 1) * TRIPLES)
-        .flat_map(triple)
-        .collect()
-}
-
-/// The three bytes of a 24-bit number.
-fn triple(number: u32) -> [u16; 3] {
-    let [_, first, second, third] = number.to_be_bytes();
-    [first, second, third].map(u16::from)
+    inputs::line_of_all(&(0..=255), line)
 }

@@ -1,6 +1,10 @@
 //! The codes that are converted, three a point.
 
+use std::ops::RangeInclusive;
+
 use crate::random::Random;
+
+use super::MOST_POINTS;
 
 pub fn greatest_code(depth: u8) -> u16 {
     (1 << depth) - 1
@@ -18,7 +22,7 @@ pub fn grid(steps: [usize; 3]) -> Vec<u16> {
 }
 
 /// All threes of a first, a second and a third number.
-fn all_of([firsts, seconds, thirds]: [&[u16]; 3]) -> Vec<u16> {
+pub fn all_of([firsts, seconds, thirds]: [&[u16]; 3]) -> Vec<u16> {
     let mut codes = Vec::new();
     for &first in firsts {
         for &second in seconds {
@@ -28,6 +32,20 @@ fn all_of([firsts, seconds, thirds]: [&[u16]; 3]) -> Vec<u16> {
         }
     }
     codes
+}
+
+/// All threes of these codes, in order and in lines of 4,096 points: the line of a number,
+/// which is empty after the last.
+pub fn line_of_all(codes: &RangeInclusive<u16>, line: u32) -> Vec<u16> {
+    let span = codes.len() as u32;
+    let points = MOST_POINTS as u32;
+    let end = span.pow(3).min((line + 1) * points);
+    (line * points..end)
+        .flat_map(|number| {
+            let steps = [number / span / span, number / span % span, number % span];
+            steps.map(|steps| codes.start() + steps as u16)
+        })
+        .collect()
 }
 
 /// The ends of the codes, those of narrow range and of what it makes, the base of

@@ -1,4 +1,5 @@
-//! All 2^32 floats of a scale, not-a-numbers too.
+//! All 2^32 floats of a scale, not-a-numbers too: against the reference, and each against
+//! the next one towards zero, so that the codes never fall as the values rise.
 
 use reference::fixed;
 use reference::quantization::{quantized, Scale};
@@ -34,9 +35,17 @@ fn go_through(
     settings: &[Setting],
     block: u32,
 ) -> Flow {
+    let setting_of = |bits: u32| settings[bits as usize % settings.len()];
+    let first = block << BLOCK_BITS;
+    let before = towards_zero(first);
+    let mut nearer = (library.quantize)(
+        setting_of(before),
+        f32::from_bits(before),
+        &mut EMPTY_SLOT.clone(),
+    );
     for low in 0..1 << BLOCK_BITS {
-        let bits = block << BLOCK_BITS | low;
-        let setting = settings[bits as usize % settings.len()];
+        let bits = first | low;
+        let setting = setting_of(bits);
         let value = f32::from_bits(bits);
         let short = if value.is_nan() {
             Err(Refusal::NotANumber)
@@ -48,17 +57,29 @@ fn go_through(
         let expected = answer(short, &mut expected_slot);
         let sampled = bits.is_multiple_of(SAMPLE);
         let agreed = !sampled || short == quantized(scale, bits);
-        tally.compare(
-            answered == expected && slot == expected_slot && agreed,
-            || {
-                format!(
+        let falls = match value.is_sign_negative() {
+            true => nearer < answered,
+            false => answered < nearer,
+        };
+        let falls = falls && !value.is_nan();
+        let same = answered == expected && slot == expected_slot;
+        tally.compare(same && agreed && !falls, || {
+            format!(
                 "quantize {}, value 0x{bits:08x}: answer {answered} and cuts {slot:x?}, must be \
-                 {expected} and {expected_slot:x?}, by the 128 bits {:?}",
+                 {expected} and {expected_slot:x?}, by the 128 bits {:?}; nearer to zero {nearer}",
                 words(setting),
                 quantized(scale, bits)
             )
-            },
-        )?;
+        })?;
+        nearer = answered;
     }
     Flow::Continue(())
+}
+
+/// The next float towards zero. That of both zeros is zero.
+fn towards_zero(bits: u32) -> u32 {
+    match bits {
+        0 | 0x8000_0000 => 0,
+        _ => bits - 1,
+    }
 }

@@ -1,0 +1,5 @@
+pub mod Claims
+mod Errors
+mod Return
+mod Scales
+mod Lines
