@@ -46,10 +46,11 @@ returns-near w n from to r g b j shares less l F T R G B =
     let luma = scaleOf (rangeOf to) n Brightness in
     let chroma = scaleOf (rangeOf to) n Difference in
     let k = allowed from to in
-    let h = fits n from to l F T in
-    let x = lies n from r l F R in
-    let y = lies n from g l F G in
-    let z = lies n from b l F B in
+    let deep : 8 ≤ n = omega arith in
+    let h = fits n from to deep F T in
+    let x = lies n from r deep F R in
+    let y = lies n from g deep F G in
+    let z = lies n from b deep F B in
     each j k r g b _ _ _
     (red-returns w shares less rgb luma chroma k h r g b x y z)
     (green-returns w shares less rgb luma chroma k h r g b x y z)
@@ -101,8 +102,9 @@ lines-return-near p n from to points cs before again P N F T whole most each B A
     let g = toRgb p n to from in
     let there = convertedOf f cs in
     let back = convertedOf g there in
-    let one = first p n from to points cs P N F T whole most each (length before) B in
-    let two = second p n from to points cs P N F T whole most each (length again) A in
+    let short : points ≤ mostPoints = omega arith in
+    let one = first p n from to points cs P N F T whole short each (length before) B in
+    let two = second p n from to points cs P N F T whole short each (length again) A in
     let s : toYcbcrOutput p n from to cs before ≡ there = written there before one in
     let t : toRgbOutput p n to from there again ≡ back = written back again two in
     rw (s, t) (

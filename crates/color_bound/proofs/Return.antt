@@ -284,9 +284,9 @@ module _ (w : Weights) (shares : Shares w) (less : fair w ≡ true) (rgb luma ch
       let f = w .red * (2 * (10000 - w .red)) in
       let h = w .blue * (2 * (10000 - w .blue)) in
       let A : 0 < a = omega (arith, shares .1) in
-      let L = ltb-true (w .red * (10000 - w .red) + w .blue * (10000 - w .blue)) a less in
+      let L = ltb-true (w .red * (10000 - w .red) + w .blue * (10000 - w .blue)) _ less in
       returns rgb (fit .rgb-some) g k a (t * d) m (a * d + f * e + h * e) A M denominator
-      (apart a f h d e ((2 * k + 1) * (a * m)) (together a (f + h) A (twice (w .red) (10000 - w .red) (w .blue) (10000 - w .blue) a L)))
+      (apart a f h d e ((2 * k + 1) * (a * m)) (together a (f + h) A (twice (w .red) (10000 - w .red) (w .blue) (10000 - w .blue) a (omega (arith, L)))))
       (omega (arith, fit .rgb-low, G .least)) (omega (arith, fit .rgb-high, G .most))
       (green-near w whole luma-near cb-near cr-near) (back .1 .0) (green-den w Y' red' blue' (shares .1) (fit .luma-some) red-den blue-den) (back .1 .1)
     where

@@ -69,7 +69,7 @@ unfolding codeOf NoHigher
 codes-rise sc nan y l h = absurd h
 codes-rise sc (inf true) nan l h = absurd h
 codes-rise sc (inf true) (inf true) l h = (_, _, refl, refl, omega arith)
-codes-rise sc (inf true) (inf false) l h = (_, _, refl, refl, l)
+codes-rise sc (inf true) (inf false) l h = (_, _, refl, refl, omega arith)
 codes-rise sc (inf true) (fin t k f) l h = (_, _, refl, refl, within sc (exact t k f) l .0)
 codes-rise sc (inf false) nan l h = absurd h
 codes-rise sc (inf false) (inf true) l h = absurd h
