@@ -9,10 +9,10 @@ use crate::clamped::Clamped;
 use crate::color::expected_convert;
 use crate::guarded::Guarded;
 use crate::library::{Conversion, Convert, Direction};
-use crate::plain::color::{converted, half_up, rounded, weights, Pieces, PIECES};
+use crate::plain::color::{half_up, rounded, weights, Pieces, PIECES};
 use crate::plain::quantization::{ends, line};
 
-use super::converts::{converts, to_rgb, to_ycbcr};
+use super::converts::{by, converts, to_rgb, to_ycbcr};
 use super::points::keeping_clamped_from;
 use super::Wrong;
 
@@ -20,10 +20,7 @@ use super::Wrong;
 macro_rules! mistaken {
     ($($mistake:literal: $piece:ident = $wrong:expr,)*) => {
         pub const IN_PIECES: &[Wrong] = [$(
-            converts($mistake, |direction, conversion, codes, out| {
-                let pieces = Pieces { $piece: $wrong, ..PIECES };
-                converted(direction, conversion, codes, out, pieces)
-            }),
+            converts($mistake, by!(Pieces { $piece: $wrong, ..PIECES })),
         )*]
         .as_flattened();
     };

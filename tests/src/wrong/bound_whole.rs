@@ -19,6 +19,13 @@ type Move = (Way, [u16; 3], [u16; 3]);
 /// that of those below it catches the mistake and nothing else.
 pub const RIGHT: Library = copying(|_, conversion, codes, out| back(conversion, codes, out, &[]));
 
+/// What this point of this way has become comes back as that.
+macro_rules! moving {
+    ($way:expr, $given:expr => $back:expr) => {
+        copying(|_, conversion, codes, out| back(conversion, codes, out, &[($way, $given, $back)]))
+    };
+}
+
 pub const WRONG: &[Wrong] = &[
     (
         "nothing moves",
@@ -26,32 +33,20 @@ pub const WRONG: &[Wrong] = &[
     ),
     (
         "full through narrow moves by 1",
-        copying(|_, conversion, codes, out| {
-            let moves = [([1, 8, 2, 1], [0, 102, 255], [0, 102, 254])];
-            back(conversion, codes, out, &moves)
-        }),
+        moving!([1, 8, 2, 1], [0, 102, 255] => [0, 102, 254]),
     ),
     // The last points of narrow and of full R'G'B', and one in the midst.
     (
         "narrow white moves by 2",
-        copying(|_, conversion, codes, out| {
-            let moves = [([1, 8, 1, 1], [235; 3], [235, 235, 233])];
-            back(conversion, codes, out, &moves)
-        }),
+        moving!([1, 8, 1, 1], [235; 3] => [235, 235, 233]),
     ),
     (
         "white moves by 3 through narrow",
-        copying(|_, conversion, codes, out| {
-            let moves = [([1, 8, 2, 1], [255; 3], [252, 255, 255])];
-            back(conversion, codes, out, &moves)
-        }),
+        moving!([1, 8, 2, 1], [255; 3] => [252, 255, 255]),
     ),
     (
         "one grey moves by 2 through full",
-        copying(|_, conversion, codes, out| {
-            let moves = [([1, 8, 1, 2], [100; 3], [100, 102, 100])];
-            back(conversion, codes, out, &moves)
-        }),
+        moving!([1, 8, 1, 2], [100; 3] => [100, 102, 100]),
     ),
     (
         "lines under 4,096 points refused",

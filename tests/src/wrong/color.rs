@@ -6,7 +6,7 @@ use crate::color::expected_convert;
 use crate::plain::color::{converted, half_up, rounded, weights, Pieces, Ratio, ONE, PIECES};
 use crate::plain::quantization::line;
 
-use super::converts::converts;
+use super::converts::{by, converts};
 use super::ends::within_the_ends;
 use super::Wrong;
 
@@ -16,141 +16,111 @@ const PAIRS: &[[Wrong; 2]] = &[
     // Weights.
     converts(
         "the blue weight for the red",
-        |direction, conversion, codes, out| {
-            let pieces = Pieces {
-                weights: |primaries| {
-                    let [_, _, kb] = weights(primaries);
-                    [kb, ONE - 2 * kb, kb]
-                },
-                ..PIECES
-            };
-            converted(direction, conversion, codes, out, pieces)
-        },
+        by!(Pieces {
+            weights: |primaries| {
+                let [_, _, kb] = weights(primaries);
+                [kb, ONE - 2 * kb, kb]
+            },
+            ..PIECES
+        }),
     ),
     converts(
         "the red and the blue weight exchanged",
-        |direction, conversion, codes, out| {
-            let pieces = Pieces {
-                weights: |primaries| {
-                    let [kr, kg, kb] = weights(primaries);
-                    [kb, kg, kr]
-                },
-                ..PIECES
-            };
-            converted(direction, conversion, codes, out, pieces)
-        },
+        by!(Pieces {
+            weights: |primaries| {
+                let [kr, kg, kb] = weights(primaries);
+                [kb, kg, kr]
+            },
+            ..PIECES
+        }),
     ),
-    converts("KG from one weight", |direction, conversion, codes, out| {
-        let pieces = Pieces {
+    converts(
+        "KG from one weight",
+        by!(Pieces {
             weights: |primaries| {
                 let [kr, _, kb] = weights(primaries);
                 [kr, ONE - kr, kb]
             },
             ..PIECES
-        };
-        converted(direction, conversion, codes, out, pieces)
-    }),
+        }),
+    ),
     converts(
         "BT.601's weights for BT.2020",
-        |direction, conversion, codes, out| {
-            let pieces = Pieces {
-                weights: |primaries| weights(if primaries == 4 { 3 } else { primaries }),
-                ..PIECES
-            };
-            converted(direction, conversion, codes, out, pieces)
-        },
+        by!(Pieces {
+            weights: |primaries| weights(if primaries == 4 { 3 } else { primaries }),
+            ..PIECES
+        }),
     ),
     converts(
         "ST-240's weights for BT.601 SMPTE",
-        |direction, conversion, codes, out| {
-            let pieces = Pieces {
-                weights: |primaries| match primaries {
-                    3 => [2120, 7010, 870],
-                    _ => weights(primaries),
-                },
-                ..PIECES
-            };
-            converted(direction, conversion, codes, out, pieces)
-        },
+        by!(Pieces {
+            weights: |primaries| match primaries {
+                3 => [2120, 7010, 870],
+                _ => weights(primaries),
+            },
+            ..PIECES
+        }),
     ),
     converts(
         "weights in thousandths",
-        |direction, conversion, codes, out| {
-            let pieces = Pieces {
-                weights: |primaries| {
-                    let [kr, _, kb] = weights(primaries).map(|weight| (weight + 5) / 10 * 10);
-                    [kr, ONE - kr - kb, kb]
-                },
-                ..PIECES
-            };
-            converted(direction, conversion, codes, out, pieces)
-        },
+        by!(Pieces {
+            weights: |primaries| {
+                let [kr, _, kb] = weights(primaries).map(|weight| (weight + 5) / 10 * 10);
+                [kr, ONE - kr - kb, kb]
+            },
+            ..PIECES
+        }),
     ),
     converts(
         "a weight one ten-thousandth off",
-        |direction, conversion, codes, out| {
-            let pieces = Pieces {
-                weights: |primaries| match weights(primaries) {
-                    [2627, kg, kb] => [2628, kg - 1, kb],
-                    weights => weights,
-                },
-                ..PIECES
-            };
-            converted(direction, conversion, codes, out, pieces)
-        },
+        by!(Pieces {
+            weights: |primaries| match weights(primaries) {
+                [2627, kg, kb] => [2628, kg - 1, kb],
+                weights => weights,
+            },
+            ..PIECES
+        }),
     ),
     // Codes and values.
     converts(
         "128 as the base of full-range differences",
-        |direction, conversion, codes, out| {
-            let pieces = Pieces {
-                line: |scale| match (scale.range, scale.kind) {
-                    (Range::Full, Kind::Difference) => (line(scale).0, 128),
-                    _ => line(scale),
-                },
-                ..PIECES
-            };
-            converted(direction, conversion, codes, out, pieces)
-        },
+        by!(Pieces {
+            line: |scale| match (scale.range, scale.kind) {
+                (Range::Full, Kind::Difference) => (line(scale).0, 128),
+                _ => line(scale),
+            },
+            ..PIECES
+        }),
     ),
     converts(
         "the older full range for the full",
-        |direction, conversion, codes, out| {
-            let pieces = Pieces {
-                line: |scale| match (scale.range, line(scale)) {
-                    (Range::Full, (step, base)) => (step + 1, base),
-                    (_, line) => line,
-                },
-                ..PIECES
-            };
-            converted(direction, conversion, codes, out, pieces)
-        },
+        by!(Pieces {
+            line: |scale| match (scale.range, line(scale)) {
+                (Range::Full, (step, base)) => (step + 1, base),
+                (_, line) => line,
+            },
+            ..PIECES
+        }),
     ),
     converts(
         "full range for the older",
-        |direction, conversion, codes, out| {
-            let pieces = Pieces {
-                line: |scale| match (scale.range, line(scale)) {
-                    (Range::LegacyFull, (step, base)) => (step - 1, base),
-                    (_, line) => line,
-                },
-                ..PIECES
-            };
-            converted(direction, conversion, codes, out, pieces)
-        },
+        by!(Pieces {
+            line: |scale| match (scale.range, line(scale)) {
+                (Range::LegacyFull, (step, base)) => (step - 1, base),
+                (_, line) => line,
+            },
+            ..PIECES
+        }),
     ),
     converts(
         "128 as the base of older differences",
-        |direction, conversion, codes, out| {
-            let pieces = Pieces {
-                line: |scale| match (scale.range, scale.kind) {
-                    (Range::LegacyFull, Kind::Difference) => (line(scale).0, 128),
-                    _ => line(scale),
-                },
-                ..PIECES
-            };
-            converted(direction, conversion, codes, out, pieces)
-        },
+        by!(Pieces {
+            line: |scale| match (scale.range, scale.kind) {
+                (Range::LegacyFull, Kind::Difference) => (line(scale).0, 128),
+                _ => line(scale),
+            },
+            ..PIECES
+        }),
     ),
     converts(
         "given codes over 4092 taken for it",
@@ -176,70 +146,52 @@ const PAIRS: &[[Wrong; 2]] = &[
     ),
     converts(
         "219 as the span of narrow differences",
-        |direction, conversion, codes, out| {
-            let pieces = Pieces {
-                line: |scale| match (scale.range, scale.kind) {
-                    (Range::Narrow, Kind::Difference) => (brightness_step(scale), line(scale).1),
-                    _ => line(scale),
-                },
-                ..PIECES
-            };
-            converted(direction, conversion, codes, out, pieces)
-        },
+        by!(Pieces {
+            line: |scale| match (scale.range, scale.kind) {
+                (Range::Narrow, Kind::Difference) => (brightness_step(scale), line(scale).1),
+                _ => line(scale),
+            },
+            ..PIECES
+        }),
     ),
     // Rounding and clamping.
     converts(
         "truncation for rounding",
-        |direction, conversion, codes, out| {
-            let pieces = Pieces {
-                round: |_, (p, q)| p / q,
-                ..PIECES
-            };
-            converted(direction, conversion, codes, out, pieces)
-        },
+        by!(Pieces {
+            round: |_, (p, q)| p / q,
+            ..PIECES
+        }),
     ),
     converts(
         "a half rounded down",
-        |direction, conversion, codes, out| {
-            let pieces = Pieces {
-                round: |_, (p, q)| -half_up((-p, q)),
-                ..PIECES
-            };
-            converted(direction, conversion, codes, out, pieces)
-        },
+        by!(Pieces {
+            round: |_, (p, q)| -half_up((-p, q)),
+            ..PIECES
+        }),
     ),
     converts(
         "a half rounded to even",
-        |direction, conversion, codes, out| {
-            let pieces = Pieces {
-                round: |_, ratio| half_to_even(ratio),
-                ..PIECES
-            };
-            converted(direction, conversion, codes, out, pieces)
-        },
+        by!(Pieces {
+            round: |_, ratio| half_to_even(ratio),
+            ..PIECES
+        }),
     ),
     converts(
         "rounding without the sign",
-        |direction, conversion, codes, out| {
-            let pieces = Pieces {
-                round: |_, (p, q)| half_up((p.abs(), q)),
-                ..PIECES
-            };
-            converted(direction, conversion, codes, out, pieces)
-        },
+        by!(Pieces {
+            round: |_, (p, q)| half_up((p.abs(), q)),
+            ..PIECES
+        }),
     ),
     converts(
         "a number under zero to the top",
-        |direction, conversion, codes, out| {
-            let pieces = Pieces {
-                round: |scale, ratio| match rounded(scale, ratio) {
-                    ..0 => 1 << 16,
-                    number => number,
-                },
-                ..PIECES
-            };
-            converted(direction, conversion, codes, out, pieces)
-        },
+        by!(Pieces {
+            round: |scale, ratio| match rounded(scale, ratio) {
+                ..0 => 1 << 16,
+                number => number,
+            },
+            ..PIECES
+        }),
     ),
     converts(
         "a number of nine bits wraps round",

@@ -1,12 +1,12 @@
 //! Mistakes in the formulas of one direction.
 
 use crate::plain::color::{
-    converted, half_up, made_scales, on_line, pointwise, rgb, rounded, values, weights, ycbcr,
-    Pieces, Ratio, ONE, PIECES,
+    half_up, made_scales, on_line, pointwise, rgb, rounded, values, weights, ycbcr, Pieces, Ratio,
+    ONE, PIECES,
 };
 use crate::plain::quantization::line;
 
-use super::converts::{to_rgb, to_ycbcr};
+use super::converts::{by, to_rgb, to_ycbcr};
 use super::ends::brightness_alone;
 use super::Wrong;
 
@@ -14,70 +14,55 @@ pub const WRONG: &[Wrong] = &[
     // To Y'CbCr.
     to_ycbcr(
         "2(1-KR) for 2(1-KB)",
-        |direction, conversion, codes, out| {
-            let pieces = Pieces {
-                ycbcr: |[kr, kg, kb], values| {
-                    let [y, cb, cr] = ycbcr([kr, kg, kb], values);
-                    [y, (cb.0, cr.1), cr]
-                },
-                ..PIECES
-            };
-            converted(direction, conversion, codes, out, pieces)
-        },
+        by!(Pieces {
+            ycbcr: |[kr, kg, kb], values| {
+                let [y, cb, cr] = ycbcr([kr, kg, kb], values);
+                [y, (cb.0, cr.1), cr]
+            },
+            ..PIECES
+        }),
     ),
     to_ycbcr(
         "2(1-KB) for 2(1-KR)",
-        |direction, conversion, codes, out| {
-            let pieces = Pieces {
-                ycbcr: |weights, values| {
-                    let [y, cb, cr] = ycbcr(weights, values);
-                    [y, cb, (cr.0, cb.1)]
-                },
-                ..PIECES
-            };
-            converted(direction, conversion, codes, out, pieces)
-        },
+        by!(Pieces {
+            ycbcr: |weights, values| {
+                let [y, cb, cr] = ycbcr(weights, values);
+                [y, cb, (cr.0, cb.1)]
+            },
+            ..PIECES
+        }),
     ),
     to_ycbcr(
         "differences not halved",
-        |direction, conversion, codes, out| {
-            let pieces = Pieces {
-                ycbcr: |weights, values| {
-                    let [y, cb, cr] = ycbcr(weights, values);
-                    [y, (2 * cb.0, cb.1), (2 * cr.0, cr.1)]
-                },
-                ..PIECES
-            };
-            converted(direction, conversion, codes, out, pieces)
-        },
+        by!(Pieces {
+            ycbcr: |weights, values| {
+                let [y, cb, cr] = ycbcr(weights, values);
+                [y, (2 * cb.0, cb.1), (2 * cr.0, cr.1)]
+            },
+            ..PIECES
+        }),
     ),
     to_ycbcr(
         "Y' - B' for B' - Y'",
-        |direction, conversion, codes, out| {
-            let pieces = Pieces {
-                ycbcr: |weights, values| {
-                    let [y, cb, cr] = ycbcr(weights, values);
-                    [y, (-cb.0, cb.1), cr]
-                },
-                ..PIECES
-            };
-            converted(direction, conversion, codes, out, pieces)
-        },
+        by!(Pieces {
+            ycbcr: |weights, values| {
+                let [y, cb, cr] = ycbcr(weights, values);
+                [y, (-cb.0, cb.1), cr]
+            },
+            ..PIECES
+        }),
     ),
     to_ycbcr(
         "Y' clamped before the differences",
-        |direction, conversion, codes, out| {
-            let pieces = Pieces {
-                ycbcr: |weights, values| {
-                    let [y, ..] = ycbcr(weights, values);
-                    let clamped = clamped(y);
-                    let [cb, cr] = differences(weights, values, clamped);
-                    [y, cb, cr]
-                },
-                ..PIECES
-            };
-            converted(direction, conversion, codes, out, pieces)
-        },
+        by!(Pieces {
+            ycbcr: |weights, values| {
+                let [y, ..] = ycbcr(weights, values);
+                let clamped = clamped(y);
+                let [cb, cr] = differences(weights, values, clamped);
+                [y, cb, cr]
+            },
+            ..PIECES
+        }),
     ),
     to_ycbcr(
         "Y' rounded to its code before the differences",
@@ -101,74 +86,59 @@ pub const WRONG: &[Wrong] = &[
     ),
     to_ycbcr(
         "the misprint of document 003",
-        |direction, conversion, codes, out| {
-            let pieces = Pieces {
-                ycbcr: |[kr, kg, kb], values| {
-                    let [y, cb, cr] = ycbcr([kr, kg, kb], values);
-                    let [_, g, _] = values;
-                    match kr {
-                        // In BT.709's matrix G' is printed without its minus.
-                        2126 => [y, cb, (cr.0 + 2 * kg * g.0, cr.1)],
-                        _ => [y, cb, cr],
-                    }
-                },
-                ..PIECES
-            };
-            converted(direction, conversion, codes, out, pieces)
-        },
+        by!(Pieces {
+            ycbcr: |[kr, kg, kb], values| {
+                let [y, cb, cr] = ycbcr([kr, kg, kb], values);
+                let [_, g, _] = values;
+                match kr {
+                    // In BT.709's matrix G' is printed without its minus.
+                    2126 => [y, cb, (cr.0 + 2 * kg * g.0, cr.1)],
+                    _ => [y, cb, cr],
+                }
+            },
+            ..PIECES
+        }),
     ),
     to_ycbcr(
         "narrow brightness alone clamped",
-        |direction, conversion, codes, out| {
-            let pieces = Pieces {
-                ends: brightness_alone,
-                ..PIECES
-            };
-            converted(direction, conversion, codes, out, pieces)
-        },
+        by!(Pieces {
+            ends: brightness_alone,
+            ..PIECES
+        }),
     ),
     // To R'G'B'.
     to_rgb(
         "2(1-KB) for 2(1-KR), back",
-        |direction, conversion, codes, out| {
-            let pieces = Pieces {
-                rgb: |[kr, kg, kb], values| {
-                    let [_, _, b] = rgb([kr, kg, kb], values);
-                    let [r, g, _] = rgb([kb, kg, kr], values);
-                    [r, g, b]
-                },
-                ..PIECES
-            };
-            converted(direction, conversion, codes, out, pieces)
-        },
+        by!(Pieces {
+            rgb: |[kr, kg, kb], values| {
+                let [_, _, b] = rgb([kr, kg, kb], values);
+                let [r, g, _] = rgb([kb, kg, kr], values);
+                [r, g, b]
+            },
+            ..PIECES
+        }),
     ),
     to_rgb(
         "1-KR for 2(1-KR), back",
-        |direction, conversion, codes, out| {
-            let pieces = Pieces {
-                rgb: |weights, [y, cb, cr]| {
-                    let [_, g, b] = rgb(weights, [y, cb, cr]);
-                    let [r, ..] = rgb(weights, [y, (2 * cb.0, 2 * cb.1), (cr.0, 2 * cr.1)]);
-                    [r, g, b]
-                },
-                ..PIECES
-            };
-            converted(direction, conversion, codes, out, pieces)
-        },
+        by!(Pieces {
+            rgb: |weights, [y, cb, cr]| {
+                let [_, g, b] = rgb(weights, [y, cb, cr]);
+                let [r, ..] = rgb(weights, [y, (2 * cb.0, 2 * cb.1), (cr.0, 2 * cr.1)]);
+                [r, g, b]
+            },
+            ..PIECES
+        }),
     ),
     to_rgb(
         "R' and B' clamped before G'",
-        |direction, conversion, codes, out| {
-            let pieces = Pieces {
-                rgb: |weights, values| {
-                    let [r, _, b] = rgb(weights, values);
-                    let g = green(weights, values[0], [clamped(r), clamped(b)]);
-                    [r, g, b]
-                },
-                ..PIECES
-            };
-            converted(direction, conversion, codes, out, pieces)
-        },
+        by!(Pieces {
+            rgb: |weights, values| {
+                let [r, _, b] = rgb(weights, values);
+                let g = green(weights, values[0], [clamped(r), clamped(b)]);
+                [r, g, b]
+            },
+            ..PIECES
+        }),
     ),
     to_rgb(
         "R' and B' rounded to their codes before G'",
@@ -188,28 +158,25 @@ pub const WRONG: &[Wrong] = &[
     ),
     to_rgb(
         "G' not divided by KG",
-        |direction, conversion, codes, out| {
-            let pieces = Pieces {
-                rgb: |[kr, kg, kb], values| {
-                    let [r, g, b] = rgb([kr, kg, kb], values);
-                    [r, (g.0, g.1 / kg * ONE), b]
-                },
-                ..PIECES
-            };
-            converted(direction, conversion, codes, out, pieces)
-        },
+        by!(Pieces {
+            rgb: |[kr, kg, kb], values| {
+                let [r, g, b] = rgb([kr, kg, kb], values);
+                [r, (g.0, g.1 / kg * ONE), b]
+            },
+            ..PIECES
+        }),
     ),
-    to_rgb("G' without Cb", |direction, conversion, codes, out| {
-        let pieces = Pieces {
+    to_rgb(
+        "G' without Cb",
+        by!(Pieces {
             rgb: |weights, [y, cb, cr]| {
                 let [r, _, b] = rgb(weights, [y, cb, cr]);
                 let [_, g, _] = rgb(weights, [y, (0, cb.1), cr]);
                 [r, g, b]
             },
             ..PIECES
-        };
-        converted(direction, conversion, codes, out, pieces)
-    }),
+        }),
+    ),
 ];
 
 /// Cb and Cr with another Y' than that of R'G'B'.

@@ -4,6 +4,16 @@ use crate::library::{Convert, Library};
 
 use super::{Wrong, REFERENCE};
 
+/// Converts by these pieces, of which one is wrong.
+macro_rules! by {
+    ($pieces:expr) => {
+        |direction, conversion, codes, out| {
+            $crate::plain::color::converted(direction, conversion, codes, out, $pieces)
+        }
+    };
+}
+pub(super) use by;
+
 /// Two programs: one is wrong to Y'CbCr, the other to R'G'B'.
 pub const fn converts(mistake: &'static str, convert: Convert) -> [Wrong; 2] {
     [to_ycbcr(mistake, convert), to_rgb(mistake, convert)]

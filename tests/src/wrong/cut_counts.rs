@@ -1,11 +1,11 @@
 //! Mistakes in counting the cuts of a line, of which each place is known to be cut or not.
 
 use crate::library::Quantize;
-use crate::plain::color::{converted, Pieces, PIECES};
+use crate::plain::color::{Pieces, PIECES};
 use crate::plain::lines::counted;
 use crate::plain::quantization::{all, half_up, line, rounded};
 
-use super::converts::converts;
+use super::converts::{by, converts};
 use super::encode::{encodes, encodes_points};
 use super::Wrong;
 
@@ -24,10 +24,7 @@ macro_rules! miscounted {
         )*];
 
         pub const CONVERTING: &[Wrong] = [$(
-            converts($mistake, |direction, conversion, codes, out| {
-                let pieces = Pieces { count: $count, ..PIECES };
-                converted(direction, conversion, codes, out, pieces)
-            }),
+            converts($mistake, by!(Pieces { count: $count, ..PIECES })),
         )*]
         .as_flattened();
     };

@@ -12,7 +12,7 @@ use crate::plain::lines::encoded;
 use crate::plain::quantization::{ends, line, on_line, outside, right_number};
 use crate::quantization::{expected_quantize, scale_of};
 
-use super::converts::{converts, to_rgb};
+use super::converts::{by, converts, to_rgb};
 use super::encode::{encodes, encodes_points};
 use super::quantization::quantizes;
 use super::Wrong;
@@ -150,23 +150,17 @@ pub const CONVERTING: &[Wrong] = [
 pub const CONVERTING_TO_RGB: &[Wrong] = &[
     to_rgb(
         "floor's cut in full range",
-        |direction, conversion, codes, out| {
-            let pieces = Pieces {
-                round: |_, ratio| half_up(ratio),
-                ..PIECES
-            };
-            converted(direction, conversion, codes, out, pieces)
-        },
+        by!(Pieces {
+            round: |_, ratio| half_up(ratio),
+            ..PIECES
+        }),
     ),
     to_rgb(
         "Round's cut in the older full range",
-        |direction, conversion, codes, out| {
-            let pieces = Pieces {
-                round: |_, ratio| away_from_zero(ratio),
-                ..PIECES
-            };
-            converted(direction, conversion, codes, out, pieces)
-        },
+        by!(Pieces {
+            round: |_, ratio| away_from_zero(ratio),
+            ..PIECES
+        }),
     ),
     to_rgb(
         "floor's cut in full range, G' alone",

@@ -3,11 +3,11 @@
 
 use reference::quantization::{Kind, Range, Scale};
 
-use crate::plain::color::{converted, Pieces, PIECES};
+use crate::plain::color::{Pieces, PIECES};
 use crate::plain::lines::encoded;
 use crate::plain::quantization::{all_codes, cut, ends, outside, right_number};
 
-use super::converts::converts;
+use super::converts::{by, converts};
 use super::encode::{encodes, encodes_points};
 use super::quantization::quantizes;
 use super::Wrong;
@@ -36,10 +36,7 @@ macro_rules! mistaken {
         )*];
 
         pub const CONVERTING: &[Wrong] = [$(
-            converts($mistake, |direction, conversion, codes, out| {
-                let pieces = Pieces { cut: $cut, ..PIECES };
-                converted(direction, conversion, codes, out, pieces)
-            }),
+            converts($mistake, by!(Pieces { cut: $cut, ..PIECES })),
         )*]
         .as_flattened();
     };

@@ -8,14 +8,14 @@ use reference::refusal::Refusal;
 use crate::guarded::{Element, Guarded};
 use crate::layouts::bytes_a_point;
 use crate::library::{Layout, Setting, Slot};
-use crate::plain::color::{converted, Pieces, PIECES};
+use crate::plain::color::{Pieces, PIECES};
 use crate::plain::lines::encoded;
 use crate::plain::quantization::{
     all_codes, clamped, ends, half_up, line, on_line, returned, right_number,
 };
 use crate::quantization::{refused, scale};
 
-use super::converts::converts;
+use super::converts::{by, converts};
 use super::encode::{encodes, encodes_points};
 use super::quantization::quantizes;
 use super::{Wrong, REFERENCE};
@@ -44,10 +44,7 @@ macro_rules! mistaken {
         )*];
 
         pub const CONVERTING: &[Wrong] = [$(
-            converts($mistake, |direction, conversion, codes, out| {
-                let pieces = Pieces { ends: $ends, ..PIECES };
-                converted(direction, conversion, codes, out, pieces)
-            }),
+            converts($mistake, by!(Pieces { ends: $ends, ..PIECES })),
         )*]
         .as_flattened();
     };
