@@ -5,7 +5,7 @@
 # make examples              runs the examples and compares what they print
 # make check                 the gate
 PREFIX ?= /usr/local
-VERSION = 0.6.0
+VERSION = 0.7.0
 
 library = target/staticlib/libimurraqi.a
 program = target/bin/stack_list

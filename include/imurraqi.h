@@ -1,15 +1,15 @@
 /* The C interface of libimurraqi.a.
  *
  * Every function answers a number of 0 or more, or minus the number of its
- * refusal (-1 .. -15, see below). On a refusal nothing behind any pointer
+ * refusal (-1 .. -16, see below). On a refusal nothing behind any pointer
  * changes. docs/PROMISES.md says what is proved of each function.
  *
  * An array of any length is a pointer and then its length in elements. No
  * pointer is null, of an empty array neither, and what a function writes to
  * overlaps nothing else that it is given.
  *
- * A layout is eight bytes, in this order: model, primaries, range, depth, bytes
- * a point, and the bit offsets of channels 0, 1 and 2.
+ * A layout is nine bytes, in this order: model, primaries, range, depth, bytes
+ * a point, the bit offsets of channels 0, 1 and 2, and the sampling.
  *
  *   model      1 R'G'B', 2 Y'CbCr
  *   primaries  1 BT.709, 2 BT.601 EBU, 3 BT.601 SMPTE, 4 BT.2020
@@ -17,10 +17,17 @@
  *              BT.2100-0 and JFIF)
  *   depth      8, 10 or 12 bits a channel
  *   bytes      3 to 8
+ *   sampling   0 points of their own, 1 groups of two points that share Cb and Cr
  *
- * Cards have editions, 1 to 3. Edition 1 has narrow and full range at 8 and 10
- * bits, and no access: all is closed. Edition 2 also has 12 bits and access, and
- * edition 3 also has legacy full range, at every depth.
+ * A group is four bytes, Cb, Y', Cr, Y', of 8 bits each: Cb and Cr are those of
+ * both points, the first Y' is the first point's. Its layout has model 2, depth 8,
+ * bytes 4 (those of the group) and offsets 0. Lines, cards and their histories may
+ * be of groups. Descriptors, single points and single fields may not: 9.
+ *
+ * Cards have editions, 1 to 4. Edition 1 has narrow and full range at 8 and 10
+ * bits, and no access: all is closed. Edition 2 also has 12 bits and access,
+ * edition 3 also has legacy full range, at every depth, and edition 4 also has
+ * groups.
  *
  * Refusals:
  *
@@ -29,14 +36,15 @@
  *    2  wrong header of a descriptor    3  wrong model or colors in it
  *    4  wrong planes in it              5  wrong sample in it
  *    6  its samples state no one range
- *    7  unknown edition: not 1 to 3     8  a card for later editions only
+ *    7  unknown edition: not 1 to 4     8  a card for later editions only
  *    9  a number, field or layout that is none of these
  *   10  unknown access in a card, written at 2 or later and not later than the
  *       edition asked                  11  the edition lacks the layout or access
  *   12  not-a-number
- *   13  a line not of whole points or of over 4,096, not exactly the bytes of a
- *       field, or an output not exactly as long as needed
- *   14  a code too high for its depth  15  no such item */
+ *   13  a line not of whole points or groups or of over 4,096 points, not exactly
+ *       the bytes of a field, or an output not exactly as long as needed
+ *   14  a code too high for its depth  15  no such item
+ *   16  of groups: an odd width, or an odd count of points to encode or pack */
 #ifndef IMURRAQI_H
 #define IMURRAQI_H
 
@@ -47,14 +55,14 @@
 extern "C" {
 #endif
 
-/* The layout that a descriptor tells. Answers 0. Refused: 1 to 6, in this
- * order. layout: the eight bytes of the layout read. */
+/* The layout that a descriptor tells, of points of their own. Answers 0. Refused:
+ * 1 to 6, in this order. layout: the nine bytes of the layout read. */
 int64_t imurraqi_descriptor_read(const uint8_t *bytes, size_t len,
-                                 uint8_t layout[8]);
+                                 uint8_t layout[9]);
 
 /* Writes the descriptor of a layout, 76 bytes. Answers 0.
- * Refused: 9, then 13. */
-int64_t imurraqi_descriptor_write(const uint8_t layout[8], uint8_t *out,
+ * Refused: 9, for groups too, then 13. */
+int64_t imurraqi_descriptor_write(const uint8_t layout[9], uint8_t *out,
                                   size_t out_len);
 
 /* The float of a code: the f32 nearest to the fraction that it stands for. Every
@@ -75,51 +83,58 @@ int64_t imurraqi_quantize(uint8_t model, uint8_t range, uint8_t depth,
                           uint8_t channel, float value, uint32_t *cuts);
 
 /* Decodes one point, as a line of one point is: three floats in channel order.
- * Answers 1. Refused: 9, then 13. point: three floats. */
-int64_t imurraqi_decode_point(const uint8_t layout[8], const uint8_t *bytes,
+ * Answers 1. Refused: 9, for groups too, then 13. point: three floats. */
+int64_t imurraqi_decode_point(const uint8_t layout[9], const uint8_t *bytes,
                               size_t len, float point[3]);
 
-/* The floats of a line of packed points, three a point in channel order, each that
- * of imurraqi_dequantize: every code is taken. Answers the count of points.
- * Refused: 9, then 13. */
-int64_t imurraqi_decode_line(const uint8_t layout[8], const uint8_t *packed,
+/* The floats of a line of packed points or groups, three a point in channel order,
+ * each that of imurraqi_dequantize: every code is taken. Both points of a group
+ * have its Cb and Cr. Answers the count of points, two a group. Refused: 9, then
+ * 13. */
+int64_t imurraqi_decode_line(const uint8_t layout[9], const uint8_t *packed,
                              size_t len, float *out, size_t out_len);
 
-/* Encodes one point, as a line of one point is. Answers 1.
- * Refused: 9, then 13, then 12. cuts: how many of its three values were cut. */
-int64_t imurraqi_encode_point(const uint8_t layout[8], float channel0,
+/* Encodes one point, as a line of one point is. Answers 1. Refused: 9, for groups
+ * too, then 13, then 12. cuts: how many of its three values were cut. */
+int64_t imurraqi_encode_point(const uint8_t layout[9], float channel0,
                               float channel1, float channel2, uint8_t *out,
                               size_t out_len, uint32_t *cuts);
 
-/* Encodes a line of values, three a point in channel order, to packed points, each
- * value as the code that imurraqi_quantize answers. Answers the count of points.
- * Refused: 9, then 13, then 12.
- * cuts: how many of the values were cut, as imurraqi_quantize tells it of each. */
-int64_t imurraqi_encode_line(const uint8_t layout[8], const float *values,
+/* Encodes a line of values, three a point in channel order, to packed points or
+ * groups, each value as the code that imurraqi_quantize answers. A group takes Cb
+ * and Cr of its first point; those of the second are not looked at, and may be
+ * not-a-number. Answers the count of points. Refused: 9, then of groups 16 for
+ * an odd count of points, then 13, then 12.
+ * cuts: how many of the values that are looked at were cut, as imurraqi_quantize
+ * tells it of each. */
+int64_t imurraqi_encode_line(const uint8_t layout[9], const float *values,
                              size_t len, uint8_t *out, size_t out_len,
                              uint32_t *cuts);
 
 /* How many bytes of a point hold the field of a channel: one to three, side by
- * side. Refused: 9.
+ * side. Refused: 9, for groups too.
  * first: the place of the first of them in the point, from 0. */
-int64_t imurraqi_field_bytes(const uint8_t layout[8], uint8_t channel,
+int64_t imurraqi_field_bytes(const uint8_t layout[9], uint8_t channel,
                              uint8_t *first);
 
 /* The code of a channel, from only the bytes that hold its field, as
  * imurraqi_field_bytes tells them. Bits in them that are not the field's are not
- * looked at. Refused: 9, then 13 for any other number of bytes. */
-int64_t imurraqi_field_code(const uint8_t layout[8], uint8_t channel,
+ * looked at. Refused: 9, for groups too, then 13 for any other number of bytes. */
+int64_t imurraqi_field_code(const uint8_t layout[9], uint8_t channel,
                             const uint8_t *bytes, size_t len);
 
-/* The codes of a line of packed points, three a point in channel order.
- * Answers the count of points. Refused: 9, then 13. */
-int64_t imurraqi_unpack_line(const uint8_t layout[8], const uint8_t *packed,
+/* The codes of a line of packed points or groups, three a point in channel order.
+ * Both points of a group have its Cb and Cr. Answers the count of points, two a
+ * group. Refused: 9, then 13. */
+int64_t imurraqi_unpack_line(const uint8_t layout[9], const uint8_t *packed,
                              size_t len, uint16_t *out, size_t out_len);
 
-/* Packs a line of codes, three a point in channel order; unused bits are zero.
- * Codes are packed as they are: none is clamped, not even in narrow range. Answers
- * the count of points. Refused: 9, then 13, then 14. */
-int64_t imurraqi_pack_line(const uint8_t layout[8], const uint16_t *codes,
+/* Packs a line of codes, three a point in channel order, to points or groups;
+ * unused bits are zero. Codes are packed as they are: none is clamped, not even in
+ * narrow range. A group takes Cb and Cr of its first point; those of the second are
+ * not looked at, and may be any. Answers the count of points. Refused: 9, then of
+ * groups 16 for an odd count of points, then 13, then 14. */
+int64_t imurraqi_pack_line(const uint8_t layout[9], const uint16_t *codes,
                            size_t len, uint8_t *out, size_t out_len);
 
 /* Converts a line of codes of R', G', B', three a point, to Y', Cb, Cr by the
@@ -145,17 +160,17 @@ int64_t imurraqi_ycbcr_to_rgb(uint8_t primaries, uint8_t depth,
                               const uint16_t *codes, size_t len, uint16_t *out,
                               size_t out_len, uint32_t *cuts);
 
-/* What a card shows at an edition, 1 to 3. Answers 0. Refused: 1, 7, 9 where
- * byte 0 is 0, 8, 9 for bytes 1 to 23 and a byte 0 that is not the layout's, 10,
- * 9 for bytes 24 to 31.
- * layout: the eight bytes of its layout. facts: width, height, item, access
+/* What a card shows at an edition, 1 to 4. Answers 0. Refused: 1, 7, 9 where
+ * byte 0 is 0, 8, 9 for bytes 1 to 23 and a byte 0 that is not the layout's, 16
+ * for an odd width of groups, 10, 9 for bytes 24 to 31.
+ * layout: the nine bytes of its layout. facts: width, height, item, access
  * (0 closed, 1 community, 2 open). */
 int64_t imurraqi_card_read(const uint8_t *card, size_t len, uint8_t edition,
-                           uint8_t layout[8], uint64_t facts[4]);
+                           uint8_t layout[9], uint64_t facts[4]);
 
 /* Writes the card of a layout, a size, an item and an access at an edition, 32
- * bytes. Answers 0. Refused: 7, 9, 11, 13. */
-int64_t imurraqi_card_write(uint8_t edition, const uint8_t layout[8],
+ * bytes. Answers 0. Refused: 7, 9, 16 for an odd width of groups, 11, 13. */
+int64_t imurraqi_card_write(uint8_t edition, const uint8_t layout[9],
                             uint16_t width, uint16_t height, uint64_t item,
                             uint8_t access, uint8_t *out, size_t out_len);
 
@@ -167,14 +182,14 @@ int64_t imurraqi_card_rewrite(const uint8_t *card, size_t len, uint8_t edition,
 /* The history of one card. Writes a card of a layout, a size, an item and an
  * access at edition first; rewrites it at each of the editions, into so many bytes
  * of outputs as lengths says, one after the other; reads it at edition last; and
- * decodes packed by the layout that is read. Answers 0. Refused: 7, 9 or 11 as
- * the first writing is; then 13 where card is not 32 bytes, editions, lengths and
- * answers are not of one length, or the lengths are not outputs_len in all.
+ * decodes packed by the layout that is read. Answers 0. Refused: 7, 9, 16 or 11
+ * as the first writing is; then 13 where card is not 32 bytes, editions, lengths
+ * and answers are not of one length, or the lengths are not outputs_len in all.
  * card: the card last written. answers: for each rewrite 0, or its refusal's
- * number. read: 0, the eight numbers of the layout, width, height, item, access,
+ * number. read: 0, the nine numbers of the layout, width, height, item, access,
  * or the last reading's refusal and zeros. decoded: 0 and the count of points, or
  * the refusal's number and 0; a refused reading decodes nothing. */
-int64_t imurraqi_replay(uint8_t first, const uint8_t layout[8], uint16_t width,
+int64_t imurraqi_replay(uint8_t first, const uint8_t layout[9], uint16_t width,
                         uint16_t height, uint64_t item, uint8_t access,
                         uint8_t *card, size_t card_len,
                         const uint8_t *editions, size_t editions_len,
@@ -182,7 +197,7 @@ int64_t imurraqi_replay(uint8_t first, const uint8_t layout[8], uint16_t width,
                         uint8_t *outputs, size_t outputs_len,
                         uint8_t *answers, size_t answers_len, uint8_t last,
                         const uint8_t *packed, size_t packed_len, float *values,
-                        size_t values_len, uint64_t read[13],
+                        size_t values_len, uint64_t read[14],
                         uint64_t decoded[2]);
 
 /* The index, from 0, of the first card of a stack that the edition reads and

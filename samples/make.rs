@@ -4,26 +4,32 @@
 use std::fs;
 
 use reference::card::{self, Facts, CLOSED, COMMUNITY, OPEN, SIZE};
+use reference::layout::Numbers;
 use reference::stack::{self, MOST_CARDS};
 
 type Card = [u8; SIZE];
 
 /// Y'CbCr, BT.709, narrow, 8 bits in three bytes.
-const BITS_8: [u8; 8] = [2, 1, 1, 8, 3, 0, 8, 16];
+const BITS_8: Numbers = [2, 1, 1, 8, 3, 0, 8, 16, 0];
 
 /// Y'CbCr, BT.601 EBU, narrow, 10 bits in four bytes.
-const BITS_10: [u8; 8] = [2, 2, 1, 10, 4, 0, 10, 20];
+const BITS_10: Numbers = [2, 2, 1, 10, 4, 0, 10, 20, 0];
 
 /// R'G'B', BT.2020, full, 12 bits in five bytes.
-const BITS_12: [u8; 8] = [1, 4, 2, 12, 5, 24, 12, 0];
+const BITS_12: Numbers = [1, 4, 2, 12, 5, 24, 12, 0, 0];
 
-const LAYOUTS: [[u8; 8]; 3] = [BITS_8, BITS_10, BITS_12];
+const LAYOUTS: [Numbers; 3] = [BITS_8, BITS_10, BITS_12];
 
 /// An early capture by the old JFIF rule: Y'CbCr, BT.601 EBU, range 3, 8 bits in three bytes.
-const EARLY_8: [u8; 8] = [2, 2, 3, 8, 3, 0, 8, 16];
+const EARLY_8: Numbers = [2, 2, 3, 8, 3, 0, 8, 16, 0];
 
 /// An early capture by BT.2100-0: R'G'B', BT.2020, range 3, 12 bits in five bytes.
-const EARLY_12: [u8; 8] = [1, 4, 3, 12, 5, 24, 12, 0];
+const EARLY_12: Numbers = [1, 4, 3, 12, 5, 24, 12, 0, 0];
+
+/// From the old tape deck: Y'CbCr, BT.601 EBU, 8 bits in groups of four bytes, narrow and in
+/// range 3.
+const GROUPS: Numbers = [2, 2, 1, 8, 4, 0, 0, 0, 1];
+const EARLY_GROUPS: Numbers = [2, 2, 3, 8, 4, 0, 0, 0, 1];
 
 /// A later edition than the newest, at which stacks are listed.
 const LATER: u8 = card::NEWEST + 1;
@@ -33,7 +39,6 @@ const LEAST: usize = 0;
 const WRITER: usize = 1;
 const DEPTH: usize = 5;
 const WIDTH: usize = 12;
-const ITEM: usize = 16;
 const ACCESS: usize = 24;
 
 fn main() {
@@ -73,7 +78,7 @@ fn store_cases(cases: &[(&str, Vec<u8>)]) {
 }
 
 /// A card as an edition writes it.
-fn written(edition: u8, layout: [u8; 8], width: u16, height: u16, item: u64, access: u8) -> Card {
+fn written(edition: u8, layout: Numbers, width: u16, height: u16, item: u64, access: u8) -> Card {
     let facts = Facts {
         layout,
         width,
@@ -115,6 +120,7 @@ fn archive() -> Vec<Card> {
         ),
         changed(written(2, BITS_8, 720, 576, 100_420, OPEN), &[(ACCESS, 3)]),
         written(3, EARLY_8, 720, 576, 117, COMMUNITY),
+        written(4, GROUPS, 720, 576, 118, COMMUNITY),
     ]
 }
 
@@ -124,16 +130,23 @@ fn full() -> Vec<Card> {
     let first = written(1, BITS_8, 720, 576, 7, CLOSED);
     let bits_12 = written(2, BITS_12, 720, 576, 7, OPEN);
     let early = written(3, EARLY_8, 720, 576, 7, OPEN);
+    let groups = written(4, GROUPS, 720, 576, 7, OPEN);
     let mut cards = Vec::new();
 
     // Each layout and access, written at each edition that has both.
     for access in [CLOSED, COMMUNITY, OPEN] {
         for layout in LAYOUTS {
-            cards.push(written(2, layout, 1920, 1080, 11, access));
-            cards.push(written(3, layout, 1920, 1080, 11, access));
+            for edition in 2..=4 {
+                cards.push(written(edition, layout, 1920, 1080, 11, access));
+            }
         }
-        cards.push(written(3, EARLY_8, 1920, 1080, 11, access));
-        cards.push(written(3, EARLY_12, 1920, 1080, 11, access));
+        for layout in [EARLY_8, EARLY_12] {
+            for edition in 3..=4 {
+                cards.push(written(edition, layout, 1920, 1080, 11, access));
+            }
+        }
+        cards.push(written(4, GROUPS, 1920, 1080, 11, access));
+        cards.push(written(4, EARLY_GROUPS, 1920, 1080, 11, access));
     }
     cards.push(written(1, BITS_8, 1920, 1080, 12, CLOSED));
     cards.push(written(1, BITS_10, 1920, 1080, 12, CLOSED));
@@ -163,35 +176,45 @@ fn full() -> Vec<Card> {
     }
     for access in [0, 1, 2, 3, 4, 255] {
         cards.push(changed(plain, &[(WRITER, 3), (ACCESS, access)]));
+        cards.push(changed(plain, &[(WRITER, 4), (ACCESS, access)]));
         cards.push(changed(early, &[(ACCESS, access)]));
+        cards.push(changed(groups, &[(ACCESS, access)]));
     }
     for place in ACCESS..SIZE {
         cards.push(changed(first, &[(place, 1)]));
         cards.push(changed(plain, &[(place, 1)]));
         cards.push(changed(early, &[(place, 1)]));
+        cards.push(changed(groups, &[(place, 1)]));
         cards.push(changed(plain, &[(WRITER, 255), (place, 255)]));
     }
 
     // Byte 0 and the writer's edition, each small number and the greatest.
     for least in [0, 1, 2, 3, 4, 255] {
         for writer in [0, 1, 2, 3, 4, 255] {
-            for card in [first, plain, bits_12, early] {
+            for card in [first, plain, bits_12, early, groups] {
                 cards.push(changed(card, &[(LEAST, least), (WRITER, writer)]));
             }
+        }
+    }
+
+    // Odd and even widths of groups, also with an access that is none.
+    for width in [1, 2, 719, 721, 4095, 4096_u16] {
+        let [low, high] = width.to_le_bytes();
+        for access in [OPEN, 3] {
+            cards.push(changed(
+                groups,
+                &[(WIDTH, low), (WIDTH + 1, high), (ACCESS, access)],
+            ));
         }
     }
 
     // Every byte of the front wrong by one bit, until the stack is full.
     for bit in [0, 7, 3, 1, 2, 4, 5, 6] {
         for place in 0..ACCESS {
-            cards.push(changed(plain, &[(place, plain[place] ^ 1 << bit)]));
+            for card in [plain, groups] {
+                cards.push(changed(card, &[(place, card[place] ^ 1 << bit)]));
+            }
         }
-    }
-    for side in 0..=255 {
-        cards.push(changed(
-            plain,
-            &[(WIDTH, side), (WIDTH + 1, side % 18), (ITEM, side)],
-        ));
     }
     assert!(cards.len() >= MOST_CARDS, "{} cards", cards.len());
     cards.truncate(MOST_CARDS);

@@ -40,8 +40,9 @@ const RTLD_NOW: c_int = 2;
 /// The entries that are compared. Their parameters are the same in both libraries, or
 /// the earlier one lacks the last, the number of cuts: on x86-64 it then does not look at
 /// it, and whoever calls clears it away. So its cuts may be left as they were, and are not
-/// compared. Other entries whose parameters change are to be left out. None if the earlier
-/// library does not have it.
+/// compared. A layout may have had eight numbers: then the first eight of the nine that are
+/// lent are looked at, and groups are to be left out. So are other entries whose parameters
+/// change. None if the earlier library does not have it.
 impl Before {
     pub fn quantize(&self) -> Option<QuantizeBefore> {
         let present: Quantize = ffi::imurraqi_quantize;
@@ -158,7 +159,7 @@ impl Before {
         // SAFETY: the library is loaded, and the name ends in a zero byte.
         let found = unsafe { dlsym(self.0, name.as_ptr()) };
         // SAFETY: F is a pointer to a function of the C interface, and has the same
-        // parameters in both, or one more for the number of cuts.
+        // parameters in both, or one more for the number of cuts, or a longer layout.
         (!found.is_null()).then(|| unsafe { transmute_copy(&found) })
     }
 }

@@ -9,7 +9,7 @@ use crate::inputs::POINTS;
 use crate::side::{median, Side};
 use crate::stack_use;
 
-/// Lengths of lines, in points: the same points are cut into such lines.
+/// Lengths of lines, in points: the same points are cut into such lines, where they can be.
 pub const LENGTHS: [usize; 6] = [1, 16, 64, 256, 1024, POINTS];
 
 /// Those of them at which the library before is measured too, beside the whole line.
@@ -50,8 +50,9 @@ pub struct Case {
     before: Option<Side>,
     /// The same at its lengths; none but for lines.
     before_lengths: Vec<Side>,
-    /// The library at each of the lengths; none but for lines.
-    lengths: Vec<Side>,
+    /// The library at each of the lengths that there are; none but for whole lines.
+    lengths: Vec<Option<Side>>,
+    is_line: bool,
 }
 
 /// A line, and the length of the output that is given with it.
@@ -61,6 +62,8 @@ pub struct Line<S, I> {
     pub numbers: S,
     pub elements: Vec<I>,
     pub output: usize,
+    /// The points that cannot be parted: one, or the two of a group.
+    pub points_each: usize,
 }
 
 /// A job on lines answers the count of points, and stores the number of cuts if it counts
@@ -84,26 +87,54 @@ impl Case {
         I: Copy + 'static,
         O: Copy + Default + PartialEq + 'static,
     {
-        let mut check = Check::new(&label);
-        for (line, wanted) in inputs(std::slice::from_ref(&accepted), refused) {
-            let output = (vec![O::default(); line.output], NO_CUTS);
-            let [library, plain] = jobs.map(|job| {
-                move |(made, cuts): &mut (Vec<O>, u32)| {
-                    job(line.numbers, black_box(&line.elements), made, cuts)
-                }
-            });
-            check.add(wanted, &output, library, plain)?;
-        }
+        let stack = checked_lines(&label, &accepted, refused, jobs)?;
         let [library, plain] = jobs;
         let side = |job, length| line_side(job, accepted.clone(), length);
+        let at = |job, length: usize| {
+            let whole = length.is_multiple_of(accepted.points_each);
+            whole.then(|| side(job, length))
+        };
         Ok(Case {
-            stack: check.stack,
+            stack,
             library: side(library, POINTS),
             plain: side(plain, POINTS),
-            plain_short: Some(side(plain, LENGTHS[0])),
+            plain_short: at(plain, LENGTHS[0]),
             before: None,
             before_lengths: Vec::new(),
-            lengths: LENGTHS.map(|length| side(library, length)).into(),
+            lengths: LENGTHS.map(|length| at(library, length)).into(),
+            is_line: true,
+            label,
+        })
+    }
+
+    /// The same line as lines of so many points, by both programs.
+    pub fn short_lines<S, I, O>(
+        label: Label,
+        whole: Line<S, I>,
+        length: usize,
+        jobs: [LineJob<S, I, O>; 2],
+    ) -> Result<Case, String>
+    where
+        S: Copy + 'static,
+        I: Copy + 'static,
+        O: Copy + Default + PartialEq + 'static,
+    {
+        let first = Line {
+            elements: whole.elements[..whole.elements.len() / POINTS * length].to_vec(),
+            output: whole.output / POINTS * length,
+            ..whole
+        };
+        let stack = checked_lines(&label, &first, &[], jobs)?;
+        let [library, plain] = jobs.map(|job| line_side(job, whole.clone(), length));
+        Ok(Case {
+            stack,
+            library,
+            plain,
+            plain_short: None,
+            before: None,
+            before_lengths: Vec::new(),
+            lengths: Vec::new(),
+            is_line: true,
             label,
         })
     }
@@ -134,6 +165,7 @@ impl Case {
             before: None,
             before_lengths: Vec::new(),
             lengths: Vec::new(),
+            is_line: false,
             label,
         })
     }
@@ -178,6 +210,11 @@ impl Case {
     }
 
     pub fn is_line(&self) -> bool {
+        self.is_line
+    }
+
+    /// Whether it is measured along whole lines.
+    pub fn is_whole_line(&self) -> bool {
         !self.lengths.is_empty()
     }
 
@@ -187,7 +224,7 @@ impl Case {
         let mut programs = vec![&mut self.library, &mut self.plain];
         programs.extend(&mut self.before);
         measure_in_turn(programs, round);
-        let lengths = self.lengths.iter_mut();
+        let lengths = self.lengths.iter_mut().flatten();
         let short = lengths
             .chain(&mut self.plain_short)
             .chain(&mut self.before_lengths);
@@ -218,7 +255,8 @@ impl Case {
     /// The library's ratio to plain Rust in lines of one point, which is the first of the
     /// lengths.
     pub fn ratio_short(&self) -> Option<f64> {
-        let (library, plain) = (self.lengths.first()?, self.plain_short.as_ref()?);
+        let library = self.lengths.first()?.as_ref()?;
+        let plain = self.plain_short.as_ref()?;
         Some(median(library.over(plain)))
     }
 
@@ -227,22 +265,25 @@ impl Case {
         let mut before = self.before_lengths.iter();
         BEFORE_LENGTHS.map(|length| {
             let place = LENGTHS.iter().position(|other| *other == length)?;
-            Some(median(self.lengths.get(place)?.over(before.next()?)))
+            let library = self.lengths.get(place)?.as_ref()?;
+            Some(median(library.over(before.next()?)))
         })
     }
 
-    /// Nanoseconds a point at each of the lengths.
-    pub fn lengths(&self) -> Vec<f64> {
-        self.lengths.iter().map(Side::median).collect()
+    /// Nanoseconds a point at each of the lengths that there are.
+    pub fn lengths(&self) -> Vec<Option<f64>> {
+        let sides = self.lengths.iter();
+        sides.map(|side| side.as_ref().map(Side::median)).collect()
     }
 
     /// How the cost a point rises at most from one length to a longer one, as a
     /// median of the rounds' ratios; none but for lines.
     pub fn growth(&self) -> Option<f64> {
-        let longer = self.lengths.iter().enumerate();
+        let lengths: Vec<&Side> = self.lengths.iter().flatten().collect();
+        let longer = lengths.iter().enumerate();
         longer
             .flat_map(|(place, longer)| {
-                let shorter = &self.lengths[..place];
+                let shorter = &lengths[..place];
                 shorter.iter().map(|shorter| median(longer.over(shorter)))
             })
             .max_by(f64::total_cmp)
@@ -271,6 +312,7 @@ where
         numbers,
         elements,
         output,
+        ..
     } = line;
     let given = elements.len() / POINTS * length;
     let made = output / POINTS * length;
@@ -302,6 +344,30 @@ pub fn call_side<I: 'static, O: 'static>(
         let answers = inputs.map(|input| job(black_box(input), black_box(&mut made)));
         answers.sum()
     })
+}
+
+/// Both programs on a line and on those that are to be refused. The most bytes of stack.
+fn checked_lines<S, I, O>(
+    label: &Label,
+    accepted: &Line<S, I>,
+    refused: &[Line<S, I>],
+    jobs: [LineJob<S, I, O>; 2],
+) -> Result<usize, String>
+where
+    S: Copy,
+    O: Copy + Default + PartialEq,
+{
+    let mut check = Check::new(label);
+    for (line, wanted) in inputs(std::slice::from_ref(accepted), refused) {
+        let output = (vec![O::default(); line.output], NO_CUTS);
+        let [library, plain] = jobs.map(|job| {
+            move |(made, cuts): &mut (Vec<O>, u32)| {
+                job(line.numbers, black_box(&line.elements), made, cuts)
+            }
+        });
+        check.add(wanted, &output, library, plain)?;
+    }
+    Ok(check.stack)
 }
 
 /// All inputs, and whether each is to be accepted.

@@ -16,7 +16,7 @@ fn of_before() -> String {
         "
 - *before*, *before at {lengths}*: how many times as long the library takes as it did in an earlier state, whose archive was
   measured in the same rounds, along a whole line and in lines of so many points; again medians of the rounds' ratios. Empty
-  where an entry is not compared. An earlier state may count no cuts, and so do less."
+  where an entry is not compared, and for groups. An earlier state may count no cuts, and so do less."
     )
 }
 
@@ -50,13 +50,15 @@ Written by `bench/run --write`, from one run; `bench/run` alone prints the same 
   that both are run on every input, refused ones too, and must give the same answers, outputs and numbers of cuts.
 - *setting*: a line is in narrow range where none is named; older full is range 3. Where bits are *at* given
   offsets, fields reach into a third byte: they have 2, 3 and 2 bytes in a point of 5, and 3 each in one of 8. In the other
-  layouts of lines all three have 1 byte (8 bits) or 2.
+  layouts of lines all three have 1 byte (8 bits) or 2. Groups are two points that share their colour: in *lines of* 16 and 256
+  points both programs are given the same short lines.
 - *input*: a row's inputs are smooth and random lines, of all depths for colors; shown is the one with the greatest
   ratio.
 - *aim*: the ratio that is not to be exceeded, where one is set. It is not enforced. But the run fails if one of the
   two takes over {MOST_APART} times as long as the other to decode a line: a loop that the compiler no longer does four points of
   at a time takes 1.4 to 2.5 times as long, and nothing else would tell.{before}
-- *at {lengths}*: the library's nanoseconds a point where the same {POINTS} points are given as lines of so many.
+- *at {lengths}*: the library's nanoseconds a point where the same {POINTS} points are given as lines of so many. A group is
+  no line of one.
 - *growth*: the most by which the cost a point rises from one of these lengths to any longer one, on any of the row's
   inputs: under 1 it falls everywhere. The run fails above {MOST_GROWTH}.
 - *ratio at 1*: the ratio to plain Rust where both are given the line as lines of one point.
@@ -74,6 +76,10 @@ each. Points of 4 bytes lost by it: four of them, 16 bytes, used to be loaded at
 more than its own bytes. The step from one point to the next is written as a sum of two halves, bytes / 2 + (bytes + 1) / 2. If it
 were a bare number, the compiler would take it for 1, and make a loop of four points at a time for that step, which no layout has; the true
 step would be left to a loop of one point at a time. It does not try that with a sum.
+
+*Groups* have a loop of their own each, a group a turn; encoding does eight groups a turn. All that a turn reads is read before it stores anything, so that
+the compiler reads and stores it at once, or does several groups side by side. Packing looks for a code above 255 with an early exit: without one the
+compiler gathers codes of several groups from their places, and takes three times as long. The second point's colour is not read.
 
 *Encoding* is one product and one sum in f64: t = v span + (base + 4096.5). v is an f32 of 24 digits and span has 13 at most, so
 that the product is exact. Two comparisons bring t to its ends, from low + 4096 to below high + 4097. From 4096 to below 8192 an f64 has 40

@@ -3,7 +3,7 @@
 use std::f32::consts::TAU;
 
 use crate::plain::colors;
-use crate::plain::layout::Numbers;
+use crate::plain::layout::{packed_bytes, Numbers};
 use crate::plain::lines;
 use crate::random::Random;
 
@@ -90,6 +90,5 @@ pub fn random(layout: Numbers) -> Forms {
 }
 
 pub fn packed_length(layout: Numbers) -> usize {
-    let [_, _, _, _, bytes, ..] = layout;
-    POINTS * usize::from(bytes)
+    packed_bytes(layout, POINTS)
 }

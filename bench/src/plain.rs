@@ -5,6 +5,7 @@ pub mod cards;
 pub mod colors;
 pub mod descriptors;
 pub mod fields;
+pub mod groups;
 pub mod history;
 pub mod layout;
 pub mod lines;

@@ -37,7 +37,7 @@ impl Random {
         f32::from_bits(bits & 0x807f_ffff | field << 23)
     }
 
-    /// A layout: its fields in any order, with a gap somewhere.
+    /// A layout of points: its fields in any order, with a gap somewhere.
     pub fn layout(&mut self) -> Numbers {
         let depth = self.depth();
         let least = (3 * depth).div_ceil(8);
@@ -60,6 +60,12 @@ impl Random {
             first,
             second,
             third,
+            0,
         ]
+    }
+
+    /// A layout of groups.
+    pub fn groups(&mut self) -> Numbers {
+        [2, 1 + self.below(4), 1 + self.below(3), 8, 4, 0, 0, 0, 1]
     }
 }

@@ -66,12 +66,14 @@ impl Row<'_> {
     }
 
     pub fn over_aim(&self) -> bool {
-        aim(self.entry()).is_some_and(|aim| self.worst().ratio() > aim)
+        let worst = self.worst();
+        aim(worst).is_some_and(|aim| worst.ratio() > aim)
     }
 
     pub fn apart(&self) -> bool {
         let apart = |ratio: f64| ratio.max(1.0 / ratio) > MOST_APART;
-        self.entry() == "decode_line" && self.cases.iter().any(|case| apart(case.ratio()))
+        let mut whole = self.cases.iter().filter(|case| case.is_whole_line());
+        self.entry() == "decode_line" && whole.any(|case| apart(case.ratio()))
     }
 
     pub fn rises(&self) -> bool {
@@ -118,12 +120,15 @@ impl Row<'_> {
             nanoseconds(case.library()),
             nanoseconds(case.plain()),
             times(Some(case.ratio())),
-            aim(case.label.entry).map_or(String::new(), |aim| aim.to_string()),
+            aim(case).map_or(String::new(), |aim| aim.to_string()),
         ];
         if before {
             cells.push(times(case.before()));
         }
-        let mut lengths: Vec<String> = case.lengths().into_iter().map(nanoseconds).collect();
+        let lengths = case.lengths().into_iter();
+        let mut lengths: Vec<String> = lengths
+            .map(|time| time.map_or(String::new(), nanoseconds))
+            .collect();
         lengths.resize(LENGTHS.len(), String::new());
         cells.extend(lengths);
         cells.push(times(self.growth()));
@@ -136,9 +141,10 @@ impl Row<'_> {
     }
 }
 
-/// The ratio that is aimed at, where there is one.
-fn aim(entry: &str) -> Option<f64> {
-    match entry {
+/// The ratio that is aimed at, where there is one: of lines, along whole ones.
+fn aim(case: &Case) -> Option<f64> {
+    match case.label.entry {
+        _ if case.is_line() && !case.is_whole_line() => None,
         "decode_line" | "unpack_line" | "pack_line" => Some(1.1),
         "encode_line" => Some(0.7),
         "rgb_to_ycbcr" | "ycbcr_to_rgb" => Some(0.45),

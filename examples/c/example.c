@@ -1,20 +1,24 @@
 /* Finds an item in a stack of cards, shows its facts, writes and reads the
  * descriptor of its layout, turns a line of its points into colors, reads one
  * channel of it alone, sends codes to the ends of its range and tells how many were
- * cut. Then turns a line of an early capture into colors, and writes its card.
+ * cut. Then turns a line of an early capture into colors, and writes its card; and a
+ * line of a tape deck, whose points share Cb and Cr two by two, which it also encodes.
  * Usage: example STACK */
 #include <imurraqi.h>
 
 #include <inttypes.h>
+#include <math.h>
 #include <stdio.h>
 #include <stdlib.h>
+#include <string.h>
 
-enum { CARD = 32, STACK = 1024 * CARD, DESCRIPTOR = 76 };
+enum { LAYOUT = 9, CARD = 32, STACK = 1024 * CARD, DESCRIPTOR = 76 };
 enum { PRIMARIES = 1, RANGE = 2, DEPTH = 3, BYTES = 4 }; /* of a layout */
-enum { FULL = 2, LEGACY_FULL = 3 };                      /* ranges */
+enum { NARROW = 1, FULL = 2, LEGACY_FULL = 3 };          /* ranges */
+enum { OWN = 0, GROUPS = 1 };                            /* samplings */
 enum { CR = 2 };                                         /* a channel */
 enum { COMMUNITY = 1 };                                  /* an access */
-enum { POINTS = 4, CODES = 3 * POINTS, EARLY_CODES = 6 };
+enum { POINTS = 4, CODES = 3 * POINTS, EARLY_CODES = 6, TAPE = 2 * POINTS };
 
 /* White, red, green and blue, as item 203002 has them: Y', Cb and Cr of 10 bits
  * each, in four bytes. */
@@ -25,8 +29,17 @@ static const uint8_t packed[4 * POINTS] = {
 
 /* White and red of an early capture, in the older full range: a byte each of Y',
  * Cb and Cr. */
-static const uint8_t early_layout[8] = {2, 2, LEGACY_FULL, 8, 3, 0, 8, 16};
+static const uint8_t early_layout[LAYOUT] = {
+    2, 2, LEGACY_FULL, 8, 3, 0, 8, 16, OWN,
+};
 static const uint8_t early[EARLY_CODES] = {255, 128, 128, 77, 85, 255};
+
+/* White and black, red and dark red of an old tape deck: two groups of two points,
+ * a byte each of Cb, Y', Cr and Y'. */
+static const uint8_t tape_layout[LAYOUT] = {
+    2, 2, NARROW, 8, 4, 0, 0, 0, GROUPS,
+};
+static const uint8_t tape[TAPE] = {128, 235, 128, 16, 90, 81, 240, 41};
 
 /* The answer, if it is one. Below 0 it is minus the number of a refusal, and
  * nothing was written, so that there is nothing to go on with. */
@@ -41,7 +54,7 @@ static int64_t good(int64_t answer)
 
 /* What edition 2 shows of an item. Its layout goes to layout. */
 static void show_item(const uint8_t *stack, size_t len, uint64_t item,
-                      uint8_t layout[8])
+                      uint8_t layout[LAYOUT])
 {
     static const char *const access[] = {"closed", "community", "open"};
     uint64_t facts[4];
@@ -64,7 +77,7 @@ static void show_points(const uint16_t *codes, const float *values,
 /* The line's codes, values and colors, by a descriptor. */
 static void show_line(const uint8_t *descriptor, size_t len)
 {
-    uint8_t layout[8];
+    uint8_t layout[LAYOUT];
     uint16_t codes[CODES], colors[CODES];
     float values[CODES];
     uint32_t cuts;
@@ -81,7 +94,7 @@ static void show_line(const uint8_t *descriptor, size_t len)
 
 /* The Cr of each point, without the other channels: only the bytes that hold its
  * field are read. */
-static void show_fields(const uint8_t layout[8])
+static void show_fields(const uint8_t layout[LAYOUT])
 {
     uint8_t first;
     int64_t count = good(imurraqi_field_bytes(layout, CR, &first));
@@ -98,7 +111,7 @@ static void show_fields(const uint8_t layout[8])
 /* Codes beyond the ends of narrow range, which video keeps for timing. They are
  * packed and decoded as they are, but encoding makes the nearer end of them, and
  * tells how many it cut so. */
-static void show_ends(const uint8_t layout[8])
+static void show_ends(const uint8_t layout[LAYOUT])
 {
     static const uint16_t codes[3] = {1023, 0, 512};
     uint16_t made[3];
@@ -115,15 +128,30 @@ static void show_ends(const uint8_t layout[8])
            codes[1], codes[2], made[0], made[1], made[2], (int)cuts);
 }
 
-/* An early capture in today's full range, and its card. Edition 3 has its range;
- * a station that is still at edition 2 can't write or read such a card. */
+/* The card of an item whose layout the edition has, and none before it: a station
+ * that is still at the edition before can't write or read such a card. */
+static void show_card(const uint8_t of[LAYOUT], uint64_t item, uint8_t edition)
+{
+    uint8_t card[CARD], layout[LAYOUT];
+    uint64_t facts[4];
+    printf("its card at edition %d: %d\n", edition - 1,
+           (int)imurraqi_card_write(edition - 1, of, 720, 576, item, COMMUNITY,
+                                    card, CARD));
+    good(imurraqi_card_write(edition, of, 720, 576, item, COMMUNITY, card,
+                             CARD));
+    good(imurraqi_card_read(card, CARD, edition, layout, facts));
+    printf("its card at edition %d: for editions from %d, item %" PRIu64 "\n",
+           edition, card[0], facts[2]);
+    printf("that card at edition %d: %d\n", edition - 1,
+           (int)imurraqi_card_read(card, CARD, edition - 1, layout, facts));
+}
+
+/* An early capture in today's full range, and its card. Edition 3 has its range. */
 static void show_early(void)
 {
-    uint8_t card[CARD], layout[8];
     uint16_t codes[EARLY_CODES], colors[EARLY_CODES];
     float values[EARLY_CODES];
     uint32_t cuts;
-    uint64_t facts[4];
     good(imurraqi_unpack_line(early_layout, early, sizeof early, codes,
                               EARLY_CODES));
     good(imurraqi_decode_line(early_layout, early, sizeof early, values,
@@ -133,22 +161,42 @@ static void show_early(void)
                                EARLY_CODES, &cuts));
     printf("an early capture\n");
     show_points(codes, values, colors, EARLY_CODES);
-    printf("its card at edition 2: %d\n",
-           (int)imurraqi_card_write(2, early_layout, 720, 576, 12, COMMUNITY,
-                                    card, CARD));
-    good(imurraqi_card_write(3, early_layout, 720, 576, 12, COMMUNITY, card,
-                             CARD));
-    good(imurraqi_card_read(card, CARD, 3, layout, facts));
-    printf("its card at edition 3: for editions from %d, item %" PRIu64 "\n",
-           card[0], facts[2]);
-    printf("that card at edition 2: %d\n",
-           (int)imurraqi_card_read(card, CARD, 2, layout, facts));
+    show_card(early_layout, 12, 3);
+}
+
+/* A line of groups: both points of a group have its Cb and Cr. Encoding takes those of
+ * the first; the second's are not looked at, so that nothing need stand there. Three
+ * points are no groups. Edition 4 has such cards, and no descriptor has groups. */
+static void show_tape(void)
+{
+    uint8_t made[TAPE], descriptor[DESCRIPTOR];
+    uint16_t codes[CODES], colors[CODES];
+    float values[CODES];
+    uint32_t cuts;
+    good(imurraqi_unpack_line(tape_layout, tape, TAPE, codes, CODES));
+    good(imurraqi_decode_line(tape_layout, tape, TAPE, values, CODES));
+    good(imurraqi_ycbcr_to_rgb(tape_layout[PRIMARIES], tape_layout[DEPTH],
+                               NARROW, FULL, codes, CODES, colors, CODES,
+                               &cuts));
+    printf("a tape, %d points in groups of two\n", POINTS);
+    show_points(codes, values, colors, CODES);
+    for (int i = 3; i < CODES; i += 6)
+        values[i + 1] = values[i + 2] = NAN;
+    good(imurraqi_encode_line(tape_layout, values, CODES, made, TAPE, &cuts));
+    printf("encoded, %s bytes, cut: %d\n",
+           memcmp(made, tape, TAPE) == 0 ? "the same" : "other", (int)cuts);
+    printf("three points of it: %d\n",
+           (int)imurraqi_encode_line(tape_layout, values, 9, made, TAPE, &cuts));
+    printf("its descriptor: %d\n",
+           (int)imurraqi_descriptor_write(tape_layout, descriptor,
+                                          sizeof descriptor));
+    show_card(tape_layout, 13, 4);
 }
 
 int main(int argc, char **argv)
 {
     static uint8_t stack[STACK + 1]; /* one more, so that a longer file is refused */
-    uint8_t layout[8], descriptor[DESCRIPTOR];
+    uint8_t layout[LAYOUT], descriptor[DESCRIPTOR];
     FILE *file = argc == 2 ? fopen(argv[1], "rb") : NULL;
     if (file == NULL) {
         fprintf(stderr, "usage: example STACK\n");
@@ -165,5 +213,6 @@ int main(int argc, char **argv)
     /* A refusal is an answer too. 15: no card of the stack has the item. */
     printf("item 7: %d\n", (int)imurraqi_stack_find(stack, len, 2, 7));
     show_early();
+    show_tape();
     return 0;
 }

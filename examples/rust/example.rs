@@ -1,10 +1,11 @@
 //! Finds an item in a stack of cards, shows its facts, writes and reads the
 //! descriptor of its layout, turns a line of its points into colors, reads one channel
 //! of it alone, sends codes to the ends of its range and tells how many were cut. Then
-//! turns a line of an early capture into colors, and writes its card.
+//! turns a line of an early capture into colors, and writes its card; and a line of a
+//! tape deck, whose points share Cb and Cr two by two, which it also encodes.
 //! Usage: example STACK
 
-use imurraqi::{access, model, primaries, range};
+use imurraqi::{access, model, primaries, range, sampling};
 use imurraqi::{Facts, Layout, Refusal, CARD_SIZE, DESCRIPTOR_SIZE};
 use std::process::ExitCode;
 
@@ -29,6 +30,18 @@ const EARLY_LAYOUT: Layout = Layout {
     depth: 8,
     bytes: 3,
     offsets: [0, 8, 16],
+    sampling: sampling::OWN,
+};
+
+/// White and black, red and dark red of an old tape deck: two groups of two points, a
+/// byte each of Cb, Y', Cr and Y'.
+const TAPE: [u8; 2 * POINTS] = [128, 235, 128, 16, 90, 81, 240, 41];
+const TAPE_LAYOUT: Layout = Layout {
+    range: range::NARROW,
+    bytes: 4,
+    offsets: [0; 3],
+    sampling: sampling::GROUPS,
+    ..EARLY_LAYOUT
 };
 
 /// What edition 2 shows of an item. Its layout is returned.
@@ -100,8 +113,31 @@ fn show_ends(layout: Layout) -> Result<(), Refusal> {
     Ok(())
 }
 
-/// An early capture in today's full range, and its card. Edition 3 has its range; a
-/// station that is still at edition 2 can't write or read such a card.
+/// The card of an item whose layout the edition has, and none before it: a station that is
+/// still at the edition before can't write or read such a card.
+fn show_card(layout: Layout, item: u64, edition: u8) -> Result<(), Refusal> {
+    let facts = Facts {
+        layout,
+        width: 720,
+        height: 576,
+        item,
+        access: access::COMMUNITY,
+    };
+    let before = edition - 1;
+    let mut card = [0; CARD_SIZE];
+    if let Err(refusal @ Refusal::UNWRITABLE) = imurraqi::card_write(before, facts, &mut card) {
+        println!("its card at edition {before}: -{}", refusal.number());
+    }
+    imurraqi::card_write(edition, facts, &mut card)?;
+    let (least, item) = (card[0], imurraqi::card_read(&card, edition)?.item);
+    println!("its card at edition {edition}: for editions from {least}, item {item}");
+    if let Err(refusal @ Refusal::LATER_EDITION) = imurraqi::card_read(&card, before) {
+        println!("that card at edition {before}: -{}", refusal.number());
+    }
+    Ok(())
+}
+
+/// An early capture in today's full range, and its card. Edition 3 has its range.
 fn show_early() -> Result<(), Refusal> {
     let (mut codes, mut colors, mut values) = ([0; 6], [0; 6], [0.0; 6]);
     imurraqi::unpack_line(EARLY_LAYOUT, &EARLY, &mut codes)?;
@@ -109,24 +145,35 @@ fn show_early() -> Result<(), Refusal> {
     imurraqi::ycbcr_to_rgb(EARLY_LAYOUT.conversion(range::FULL), &codes, &mut colors)?;
     println!("an early capture");
     show_points(&codes, &values, &colors);
-    let facts = Facts {
-        layout: EARLY_LAYOUT,
-        width: 720,
-        height: 576,
-        item: 12,
-        access: access::COMMUNITY,
-    };
-    let mut card = [0; CARD_SIZE];
-    if let Err(refusal @ Refusal::UNWRITABLE) = imurraqi::card_write(2, facts, &mut card) {
-        println!("its card at edition 2: -{}", refusal.number());
+    show_card(EARLY_LAYOUT, 12, 3)
+}
+
+/// A line of groups: both points of a group have its Cb and Cr. Encoding takes those of
+/// the first; the second's are not looked at, so that nothing need stand there. Three
+/// points are no groups. Edition 4 has such cards, and no descriptor has groups.
+fn show_tape() -> Result<(), Refusal> {
+    let (mut codes, mut colors, mut values) = ([0; CODES], [0; CODES], [0.0; CODES]);
+    imurraqi::unpack_line(TAPE_LAYOUT, &TAPE, &mut codes)?;
+    imurraqi::decode_line(TAPE_LAYOUT, &TAPE, &mut values)?;
+    imurraqi::ycbcr_to_rgb(TAPE_LAYOUT.conversion(range::FULL), &codes, &mut colors)?;
+    println!("a tape, {POINTS} points in groups of two");
+    show_points(&codes, &values, &colors);
+    for group in values.chunks_mut(6) {
+        group[4..].fill(f32::NAN);
     }
-    imurraqi::card_write(3, facts, &mut card)?;
-    let (least, item) = (card[0], imurraqi::card_read(&card, 3)?.item);
-    println!("its card at edition 3: for editions from {least}, item {item}");
-    if let Err(refusal @ Refusal::LATER_EDITION) = imurraqi::card_read(&card, 2) {
-        println!("that card at edition 2: -{}", refusal.number());
+    let mut made = [0; TAPE.len()];
+    let cuts = imurraqi::encode_line(TAPE_LAYOUT, &values, &mut made)?.cuts;
+    let bytes = if made == TAPE { "the same" } else { "other" };
+    println!("encoded, {bytes} bytes, cut: {cuts}");
+    let three = imurraqi::encode_line(TAPE_LAYOUT, &values[..9], &mut made);
+    if let Err(refusal @ Refusal::ODD_COUNT) = three {
+        println!("three points of it: -{}", refusal.number());
     }
-    Ok(())
+    let descriptor = imurraqi::descriptor_write(TAPE_LAYOUT, &mut [0; DESCRIPTOR_SIZE]);
+    if let Err(refusal @ Refusal::OUTSIDE) = descriptor {
+        println!("its descriptor: -{}", refusal.number());
+    }
+    show_card(TAPE_LAYOUT, 13, 4)
 }
 
 fn show(stack: &[u8]) -> Result<(), Refusal> {
@@ -140,7 +187,8 @@ fn show(stack: &[u8]) -> Result<(), Refusal> {
     if let Err(refusal @ Refusal::NO_ITEM) = imurraqi::stack_find(stack, 2, 7) {
         println!("item 7: -{}", refusal.number());
     }
-    show_early()
+    show_early()?;
+    show_tape()
 }
 
 fn main() -> ExitCode {

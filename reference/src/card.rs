@@ -1,12 +1,12 @@
 //! Cards: the paper's "Card, 32 bytes".
 
-use crate::layout::Layout;
+use crate::layout::{Layout, Numbers};
 use crate::refusal::Refusal;
 
 pub const SIZE: usize = 32;
 
 /// The newest edition. Editions are known from 1 to it.
-pub const NEWEST: u8 = 3;
+pub const NEWEST: u8 = 4;
 
 const GREATEST_SIDE: u16 = 4096;
 
@@ -22,8 +22,7 @@ const ACCESS: usize = 24;
 /// any numbers.
 #[derive(Clone, Copy, Debug, PartialEq, Eq)]
 pub struct Facts {
-    /// The eight numbers of a layout.
-    pub layout: [u8; 8],
+    pub layout: Numbers,
     pub width: u16,
     pub height: u16,
     pub item: u64,
@@ -44,16 +43,17 @@ pub fn read(bytes: &[u8], edition: u8) -> Result<Facts, Refusal> {
         return Err(Refusal::TooNew);
     }
     let silent = Facts {
-        layout: [2, 3, 4, 5, 6, 8, 9, 10].map(|place| card[place]),
+        layout: [2, 3, 4, 5, 6, 8, 9, 10, 7].map(|place| card[place]),
         width: number(&card[12..14]) as u16,
         height: number(&card[14..16]) as u16,
         item: number(&card[16..24]),
         access: CLOSED,
     };
     let layout = silent.inside()?;
-    if least != least_edition(layout) || written < least || card[7] != 0 || card[11] != 0 {
+    if least != least_edition(layout) || written < least || card[11] != 0 {
         return Err(Refusal::Outside);
     }
+    silent.of_pairs(layout)?;
     let access = access(&card[ACCESS..], written, edition)?;
     Ok(Facts { access, ..silent })
 }
@@ -62,6 +62,7 @@ pub fn read(bytes: &[u8], edition: u8) -> Result<Facts, Refusal> {
 pub fn write(edition: u8, facts: Facts, out: &mut [u8]) -> Result<(), Refusal> {
     known(edition)?;
     let layout = facts.inside()?;
+    facts.of_pairs(layout)?;
     let lacks_access = !has_access(edition) && facts.access != CLOSED;
     if edition < least_edition(layout) || lacks_access {
         return Err(Refusal::EditionLacks);
@@ -78,7 +79,7 @@ pub fn rewrite(card: &[u8], edition: u8, out: &mut [u8]) -> Result<(), Refusal> 
     write(edition, read(card, edition)?, out)
 }
 
-/// Refuses an edition that is not 1 to 3.
+/// Refuses an edition that is not 1 to 4.
 pub fn known(edition: u8) -> Result<(), Refusal> {
     match edition {
         1..=NEWEST => Ok(()),
@@ -92,11 +93,12 @@ pub fn has_access(edition: u8) -> bool {
 }
 
 /// The least edition that can read a card of this layout: the highest that its
-/// range or its depth needs.
+/// sampling, its range or its depth needs.
 pub(crate) fn least_edition(layout: Layout) -> u8 {
-    match (layout.range, layout.depth) {
-        (3, _) => 3,
-        (_, 12) => 2,
+    match (layout.sampling, layout.range, layout.depth) {
+        (1, _, _) => 4,
+        (_, 3, _) => 3,
+        (_, _, 12) => 2,
         _ => 1,
     }
 }
@@ -138,6 +140,7 @@ fn bytes(edition: u8, facts: Facts, layout: Layout) -> [u8; SIZE] {
     card[4] = layout.range;
     card[5] = layout.depth;
     card[6] = layout.bytes_a_point;
+    card[7] = layout.sampling;
     card[8..11].copy_from_slice(&layout.offsets);
     card[12..14].copy_from_slice(&facts.width.to_le_bytes());
     card[14..16].copy_from_slice(&facts.height.to_le_bytes());
@@ -161,6 +164,15 @@ impl Facts {
             Err(Refusal::Outside)
         }
     }
+
+    /// Refuses a width that is not of whole groups.
+    fn of_pairs(self, layout: Layout) -> Result<(), Refusal> {
+        if usize::from(self.width).is_multiple_of(layout.points_each()) {
+            Ok(())
+        } else {
+            Err(Refusal::OddCount)
+        }
+    }
 }
 
 /// The little-endian number of these bytes.
@@ -178,7 +190,7 @@ mod tests {
 
     /// Item 7, open, 720 by 576.
     const FACTS: Facts = Facts {
-        layout: [2, 2, 1, 10, 4, 0, 10, 20],
+        layout: [2, 2, 1, 10, 4, 0, 10, 20, 0],
         width: 720,
         height: 576,
         item: 7,
@@ -225,12 +237,13 @@ mod tests {
         card[1] = 4;
         card[31] = 1;
         assert_eq!(read(&card, 3).map(|facts| facts.access), Ok(CLOSED));
+        assert_eq!(read(&card, 4), Err(Refusal::Access));
     }
 
     #[test]
     fn the_older_full_range() {
         let facts = Facts {
-            layout: [2, 2, 3, 8, 3, 0, 8, 16],
+            layout: [2, 2, 3, 8, 3, 0, 8, 16, 0],
             ..FACTS
         };
         let mut card = [0xff; SIZE];
@@ -244,5 +257,42 @@ mod tests {
         // A byte 0 of 2 is another layout's.
         card[0] = 2;
         assert_eq!(read(&card, 3), Err(Refusal::Outside));
+    }
+
+    #[test]
+    fn groups() {
+        let facts = Facts {
+            layout: [2, 2, 1, 8, 4, 0, 0, 0, 1],
+            ..FACTS
+        };
+        let odd = Facts {
+            width: 721,
+            ..facts
+        };
+        let mut card = [0xff; SIZE];
+        for edition in [1, 2, 3] {
+            assert_eq!(write(edition, facts, &mut card), Err(Refusal::EditionLacks));
+            assert_eq!(write(edition, odd, &mut card), Err(Refusal::OddCount));
+        }
+        assert_eq!(write(5, odd, &mut card), Err(Refusal::Edition));
+        let without_item = Facts { item: 0, ..odd };
+        assert_eq!(write(4, without_item, &mut card), Err(Refusal::Outside));
+        assert_eq!(write(4, odd, &mut []), Err(Refusal::OddCount));
+        assert_eq!(write(4, facts, &mut card), Ok(()));
+        assert_eq!(card[..12], [4, 4, 2, 2, 1, 8, 4, 1, 0, 0, 0, 0]);
+        assert_eq!(read(&card, 3), Err(Refusal::TooNew));
+        assert_eq!(read(&card, 4), Ok(facts));
+        // Next after the 9 for bytes 1 to 23, and before 10.
+        card[12] = 0xd1;
+        card[24] = 3;
+        assert_eq!(read(&card, 4), Err(Refusal::OddCount));
+        card[11] = 1;
+        assert_eq!(read(&card, 4), Err(Refusal::Outside));
+        // Points of their own may be in odd numbers, but need their offsets.
+        card[..13].copy_from_slice(&[1, 4, 2, 2, 1, 8, 4, 0, 0, 8, 16, 0, 0xd1]);
+        card[24] = 2;
+        assert_eq!(read(&card, 4).map(|facts| facts.width), Ok(721));
+        card[7] = 1;
+        assert_eq!(read(&card, 4), Err(Refusal::Outside));
     }
 }

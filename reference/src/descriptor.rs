@@ -1,6 +1,6 @@
 //! Descriptors of the Khronos Data Format: the paper's "Descriptor, 76 bytes".
 
-use crate::layout::Layout;
+use crate::layout::{Layout, Numbers};
 use crate::quantization::{Kind, Range};
 use crate::refusal::Refusal;
 
@@ -24,8 +24,8 @@ struct Sample {
     upper: u32,
 }
 
-/// The eight numbers of the layout that a descriptor states.
-pub fn read(bytes: &[u8]) -> Result<[u8; 8], Refusal> {
+/// The numbers of the layout that a descriptor states, whose points are their own.
+pub fn read(bytes: &[u8]) -> Result<Numbers, Refusal> {
     if bytes.len() != SIZE {
         return Err(Refusal::Size);
     }
@@ -51,6 +51,7 @@ pub fn read(bytes: &[u8]) -> Result<[u8; 8], Refusal> {
             depth,
             bytes_a_point,
             offsets,
+            sampling: 0,
         })
         .into_iter()
         .find(|&layout| samples.iter().all(|sample| sample.states_range_of(layout)))
@@ -58,9 +59,9 @@ pub fn read(bytes: &[u8]) -> Result<[u8; 8], Refusal> {
         .ok_or(Refusal::SampleRange)
 }
 
-/// Fills `out` with the descriptor of a layout.
-pub fn write(layout: [u8; 8], out: &mut [u8]) -> Result<(), Refusal> {
-    let layout = Layout::new(layout)?;
+/// Fills `out` with the descriptor of a layout. Groups have none.
+pub fn write(layout: Numbers, out: &mut [u8]) -> Result<(), Refusal> {
+    let layout = Layout::of_points(layout)?;
     if out.len() != SIZE {
         return Err(Refusal::Length);
     }
@@ -171,10 +172,11 @@ fn four(bytes: &[u8], place: usize) -> [u8; 4] {
 #[cfg(test)]
 mod tests {
     use super::{read, write, SIZE};
+    use crate::layout::Numbers;
     use crate::refusal::Refusal;
 
     /// Y'CbCr in the older full range, 10 bits.
-    const LEGACY: [u8; 8] = [2, 4, 3, 10, 4, 0, 10, 20];
+    const LEGACY: Numbers = [2, 4, 3, 10, 4, 0, 10, 20, 0];
 
     #[test]
     fn upper_states_the_older_full_range() {
@@ -190,6 +192,6 @@ mod tests {
         bytes[56..58].copy_from_slice(&[0xff, 3]);
         assert_eq!(read(&bytes), Err(Refusal::SampleRange));
         bytes[72..74].copy_from_slice(&[0xff, 3]);
-        assert_eq!(read(&bytes), Ok([2, 4, 2, 10, 4, 0, 10, 20]));
+        assert_eq!(read(&bytes), Ok([2, 4, 2, 10, 4, 0, 10, 20, 0]));
     }
 }

@@ -2,17 +2,17 @@
 
 use std::ops::Range;
 
-use crate::layout::Layout;
+use crate::layout::{Layout, Numbers};
 use crate::refusal::Refusal;
 
 /// The places in a point of the bytes that hold a channel's field, from that of its
 /// lowest bit to that of its highest.
-pub fn bytes(layout: [u8; 8], channel: u8) -> Result<Range<usize>, Refusal> {
+pub fn bytes(layout: Numbers, channel: u8) -> Result<Range<usize>, Refusal> {
     Ok(holding(&bits(layout, channel)?))
 }
 
 /// The code of a channel, from only the bytes that hold its field.
-pub fn code(layout: [u8; 8], channel: u8, given: &[u8]) -> Result<u16, Refusal> {
+pub fn code(layout: Numbers, channel: u8, given: &[u8]) -> Result<u16, Refusal> {
     let bits = bits(layout, channel)?;
     let bytes = holding(&bits);
     if given.len() != bytes.len() {
@@ -28,9 +28,9 @@ pub fn code(layout: [u8; 8], channel: u8, given: &[u8]) -> Result<u16, Refusal> 
 }
 
 /// The places of a field's bits in the point, where bit 0 is the lowest of the first
-/// byte.
-fn bits(layout: [u8; 8], channel: u8) -> Result<Range<usize>, Refusal> {
-    let layout = Layout::new(layout)?;
+/// byte. Groups are refused.
+fn bits(layout: Numbers, channel: u8) -> Result<Range<usize>, Refusal> {
+    let layout = Layout::of_points(layout)?;
     let offset = layout.offsets.get(usize::from(channel));
     let lowest = usize::from(*offset.ok_or(Refusal::Outside)?);
     Ok(lowest..lowest + usize::from(layout.depth))
@@ -44,10 +44,11 @@ fn holding(bits: &Range<usize>) -> Range<usize> {
 #[cfg(test)]
 mod tests {
     use super::{bytes, code};
+    use crate::layout::Numbers;
     use crate::refusal::Refusal;
 
     /// 12 bits at bits 6, 24 and 36 of six bytes.
-    const LAYOUT: [u8; 8] = [1, 1, 2, 12, 6, 6, 24, 36];
+    const LAYOUT: Numbers = [1, 1, 2, 12, 6, 6, 24, 36, 0];
 
     #[test]
     fn a_field_in_three_bytes_and_in_two() {

@@ -93,7 +93,7 @@ mod tests {
     use crate::refusal::Refusal;
 
     const FACTS: Facts = Facts {
-        layout: [2, 2, 1, 10, 4, 0, 10, 20],
+        layout: [2, 2, 1, 10, 4, 0, 10, 20, 0],
         width: 720,
         height: 576,
         item: 7,
@@ -104,13 +104,14 @@ mod tests {
     fn open_until_edition_1_has_it() {
         let mut book = Book::new(2, FACTS).unwrap();
         let mut room = [0xff; SIZE];
-        assert_eq!(book.rewrite(4, &mut room), Err(Refusal::Edition));
+        assert_eq!(book.rewrite(5, &mut room), Err(Refusal::Edition));
         assert_eq!(book.rewrite(1, &mut room[1..]), Err(Refusal::Length));
         assert_eq!(room, [0xff; SIZE]);
         assert_eq!(book.rewrite(2, &mut room), Ok(()));
         assert_eq!(book.rewrite(3, &mut room), Ok(()));
+        assert_eq!(book.rewrite(4, &mut room), Ok(()));
         assert_eq!(book.read(2), Ok(FACTS));
-        assert_eq!(book.read(3), Ok(FACTS));
+        assert_eq!(book.read(4), Ok(FACTS));
         assert_eq!(book.read(1).map(|facts| facts.access), Ok(CLOSED));
         assert_eq!(book.rewrite(1, &mut room), Ok(()));
         assert_eq!(book.rewrite(2, &mut room), Ok(()));
@@ -121,7 +122,7 @@ mod tests {
     #[test]
     fn twelve_bits() {
         let facts = Facts {
-            layout: [2, 2, 1, 12, 5, 0, 12, 24],
+            layout: [2, 2, 1, 12, 5, 0, 12, 24, 0],
             ..FACTS
         };
         assert_eq!(Book::new(1, facts).err(), Some(Refusal::EditionLacks));
@@ -134,7 +135,7 @@ mod tests {
     #[test]
     fn the_older_full_range() {
         let facts = Facts {
-            layout: [2, 2, 3, 10, 4, 0, 10, 20],
+            layout: [2, 2, 3, 10, 4, 0, 10, 20, 0],
             ..FACTS
         };
         assert_eq!(Book::new(2, facts).err(), Some(Refusal::EditionLacks));
@@ -143,5 +144,29 @@ mod tests {
         assert_eq!(book.rewrite(3, &mut []), Err(Refusal::Length));
         assert_eq!(book.read(1), Err(Refusal::TooNew));
         assert_eq!(book.read(3), Ok(facts));
+    }
+
+    #[test]
+    fn groups() {
+        let facts = Facts {
+            layout: [2, 2, 1, 8, 4, 0, 0, 0, 1],
+            ..FACTS
+        };
+        let odd = Facts {
+            width: 719,
+            ..facts
+        };
+        assert_eq!(Book::new(3, facts).err(), Some(Refusal::EditionLacks));
+        assert_eq!(Book::new(4, odd).err(), Some(Refusal::OddCount));
+        let mut book = Book::new(4, facts).unwrap();
+        assert_eq!(book.rewrite(3, &mut []), Err(Refusal::TooNew));
+        assert_eq!(book.rewrite(4, &mut [0; SIZE]), Ok(()));
+        assert_eq!(book.read(3), Err(Refusal::TooNew));
+        assert_eq!(book.read(4), Ok(facts));
+        // Two points a group.
+        let mut values = [0; 6];
+        assert_eq!(book.decode(&[128, 235, 128, 16], &mut values), Ok(2));
+        assert_eq!(values.map(f32::from_bits), [1.0, 0.0, 0.0, 0.0, 0.0, 0.0]);
+        assert_eq!(book.decode(&[128, 235], &mut values), Err(Refusal::Length));
     }
 }

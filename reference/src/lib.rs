@@ -13,6 +13,7 @@ pub mod fields;
 pub mod fixed;
 pub mod float;
 pub mod fraction;
+pub mod groups;
 pub mod history;
 pub mod layout;
 pub mod lines;

@@ -8,6 +8,7 @@ use reference::card::{self, Facts};
 use reference::color;
 use reference::descriptor;
 use reference::fields;
+use reference::layout::{Layout, Numbers};
 use reference::lines;
 use reference::quantization::{self, Kind, Scale};
 use reference::refusal::Refusal;
@@ -37,16 +38,17 @@ RANGE       1 narrow, 2 full, 3 the older full range
 DEPTH       8, 10 or 12
 CHANNEL     0, 1 or 2
 VALUE       decimal text, rounded to the nearest float, or a float's bits as 0x...
-LAYOUT      model, primaries, range, depth, bytes a point, three bit offsets, as in
-            1,1,2,8,3,0,8,16
+LAYOUT      model, primaries, range, depth, bytes a point, three bit offsets, sampling
+            (0 points of their own, which may be left out, 1 groups of two that share
+            their colour), as in 1,1,2,8,3,0,8,16 and 2,2,1,8,4,0,0,0,1
 CONVERSION  primaries, depth, range of the given codes, range of the codes made, as
             in 1,8,2,2
 WAY         primaries, depth, range of the R'G'B' codes, range of the Y'CbCr codes, as in
             1,8,2,1
-EDITION     1, 2 or 3
+EDITION     1, 2, 3 or 4
 ACCESS      0 closed, 1 community, 2 open
-BYTES       hexadecimal digits, two a byte: packed points, the bytes of a field, or a
-            descriptor, a card or a stack to read
+BYTES       hexadecimal digits, two a byte: packed points or groups, the bytes of a
+            field, or a descriptor, a card or a stack to read
 quantize, encode, ycbcr and rgb also tell how many values were cut: those whose rounded
 number lay outside the span to which it is clamped, and infinities
 there-and-back tells the Y'CbCr codes of R'G'B' codes, the R'G'B' codes of those, by how
@@ -87,19 +89,19 @@ fn answer(arguments: &[&str]) -> Option<Result<String, Refusal>> {
             Some(quantized.map(|made| with_cuts(&made.code.to_string(), made.cut.into())))
         }
         ["field-bytes", layout, channel] => {
-            let bytes = fields::bytes(numbers(layout)?, channel.parse().ok()?);
+            let bytes = fields::bytes(layout_of(layout)?, channel.parse().ok()?);
             Some(bytes.map(|bytes| format!("{} bytes from byte {}", bytes.len(), bytes.start)))
         }
         ["field-code", layout, channel, given] => {
-            let code = fields::code(numbers(layout)?, channel.parse().ok()?, &bytes(given)?);
+            let code = fields::code(layout_of(layout)?, channel.parse().ok()?, &bytes(given)?);
             Some(code.map(|code| code.to_string()))
         }
-        ["unpack", layout, packed] => Some(unpack(numbers(layout)?, &bytes(packed)?)),
-        ["pack", layout, ref given @ ..] => Some(pack(numbers(layout)?, &codes(given)?)),
-        ["decode", layout, packed] => Some(decode(numbers(layout)?, &bytes(packed)?)),
+        ["unpack", layout, packed] => Some(unpack(layout_of(layout)?, &bytes(packed)?)),
+        ["pack", layout, ref given @ ..] => Some(pack(layout_of(layout)?, &codes(given)?)),
+        ["decode", layout, packed] => Some(decode(layout_of(layout)?, &bytes(packed)?)),
         ["encode", layout, ref values @ ..] => {
             let values: Option<Vec<u32>> = values.iter().map(|value| float_bits(value)).collect();
-            Some(encode(numbers(layout)?, &values?))
+            Some(encode(layout_of(layout)?, &values?))
         }
         ["ycbcr", conversion, ref given @ ..] => {
             let rgb = codes(given)?;
@@ -117,14 +119,14 @@ fn answer(arguments: &[&str]) -> Option<Result<String, Refusal>> {
             let given = codes(given)?.try_into().ok()?;
             Some(there_and_back(numbers(way)?, given))
         }
-        ["write", layout] => Some(write(numbers(layout)?)),
+        ["write", layout] => Some(write(layout_of(layout)?)),
         ["read", descriptor] => {
             let layout = descriptor::read(&bytes(descriptor)?);
             Some(layout.map(|numbers| separated(&numbers, ",")))
         }
         ["write-card", edition, layout, width, height, item, access] => {
             let facts = Facts {
-                layout: numbers(layout)?,
+                layout: layout_of(layout)?,
                 width: width.parse().ok()?,
                 height: height.parse().ok()?,
                 item: item.parse().ok()?,
@@ -163,31 +165,28 @@ fn dequantize(model: u8, range: u8, depth: u8, channel: u8, code: u16) -> Result
     Ok(format!("{kind} {float:?} 0x{bits:08x} {fraction}"))
 }
 
-fn unpack(layout: [u8; 8], packed: &[u8]) -> Result<String, Refusal> {
-    // A layout without bytes is refused, whatever the output.
-    let points = packed.len().checked_div(bytes_a_point(layout)).unwrap_or(0);
-    let mut codes = vec![0; 3 * points];
+fn unpack(layout: Numbers, packed: &[u8]) -> Result<String, Refusal> {
+    let mut codes = vec![0; elements(layout, packed.len())?];
     lines::unpack_line(layout, packed, &mut codes)?;
     Ok(separated(&codes, " "))
 }
 
-fn pack(layout: [u8; 8], codes: &[u16]) -> Result<String, Refusal> {
-    let mut packed = vec![0; codes.len() / 3 * bytes_a_point(layout)];
+fn pack(layout: Numbers, codes: &[u16]) -> Result<String, Refusal> {
+    let mut packed = vec![0; packed_bytes(layout, codes.len())?];
     lines::pack_line(layout, codes, &mut packed)?;
     Ok(hexadecimal(&packed))
 }
 
 /// The floats as decimal text.
-fn decode(layout: [u8; 8], packed: &[u8]) -> Result<String, Refusal> {
-    let points = packed.len().checked_div(bytes_a_point(layout)).unwrap_or(0);
-    let mut values = vec![0; 3 * points];
+fn decode(layout: Numbers, packed: &[u8]) -> Result<String, Refusal> {
+    let mut values = vec![0; elements(layout, packed.len())?];
     lines::decode_line(layout, packed, &mut values)?;
     let values: Vec<f32> = values.into_iter().map(f32::from_bits).collect();
     Ok(separated(&values, " "))
 }
 
-fn encode(layout: [u8; 8], values: &[u32]) -> Result<String, Refusal> {
-    let mut packed = vec![0; values.len() / 3 * bytes_a_point(layout)];
+fn encode(layout: Numbers, values: &[u32]) -> Result<String, Refusal> {
+    let mut packed = vec![0; packed_bytes(layout, values.len())?];
     let counts = lines::encode_line(layout, values, &mut packed)?;
     Ok(with_cuts(&hexadecimal(&packed), counts.cuts))
 }
@@ -208,7 +207,7 @@ fn there_and_back(way: bound::Way, given: [u16; 3]) -> Result<String, Refusal> {
     Ok(format!("{there}, back {back}, moved {moved} {most}"))
 }
 
-fn write(layout: [u8; 8]) -> Result<String, Refusal> {
+fn write(layout: Numbers) -> Result<String, Refusal> {
     let mut bytes = [0; descriptor::SIZE];
     descriptor::write(layout, &mut bytes)?;
     Ok(hexadecimal(&bytes))
@@ -234,8 +233,16 @@ fn shown(facts: Facts) -> String {
     format!("{layout} {width} {height} {item} {access}")
 }
 
-fn bytes_a_point([_, _, _, _, bytes, ..]: [u8; 8]) -> usize {
-    bytes.into()
+/// The codes or floats of so many packed bytes.
+fn elements(layout: Numbers, packed_bytes: usize) -> Result<usize, Refusal> {
+    let layout = Layout::new(layout)?;
+    Ok(packed_bytes / layout.point_bytes() * layout.points_each() * 3)
+}
+
+/// The packed bytes of so many codes or floats.
+fn packed_bytes(layout: Numbers, elements: usize) -> Result<usize, Refusal> {
+    let layout = Layout::new(layout)?;
+    Ok(elements / 3 / layout.points_each() * layout.point_bytes())
 }
 
 fn float_bits(text: &str) -> Option<u32> {
@@ -244,6 +251,11 @@ fn float_bits(text: &str) -> Option<u32> {
         // The standard library rounds decimal text to the nearest float.
         None => text.parse().ok().map(f32::to_bits),
     }
+}
+
+/// The nine numbers of a layout, or eight of one whose points are their own.
+fn layout_of(text: &str) -> Option<Numbers> {
+    numbers(text).or_else(|| numbers(&format!("{text},0")))
 }
 
 /// The numbers of a layout or a conversion, with commas between them.

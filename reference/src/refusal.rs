@@ -16,7 +16,7 @@ pub enum Refusal {
     Sample = 5,
     /// Lower and upper numbers that state no one range.
     SampleRange = 6,
-    /// An edition asked that is not 1 to 3.
+    /// An edition asked that is not 1 to 4.
     Edition = 7,
     /// A card's byte 0 above the edition asked.
     TooNew = 8,
@@ -27,12 +27,14 @@ pub enum Refusal {
     /// An edition asked to write a layout or an access that it lacks.
     EditionLacks = 11,
     NotANumber = 12,
-    /// A line not of whole points or over 4,096 points, not exactly the bytes of a
-    /// field, or an output that is not exactly as long as needed.
+    /// A line not of whole points or groups or over 4,096 points, not exactly the bytes
+    /// of a field, or an output that is not exactly as long as needed.
     Length = 13,
     /// A code above 2^n - 1.
     CodeTooHigh = 14,
     NoItem = 15,
+    /// Of groups: an odd width, or an odd count of whole points to encode or pack.
+    OddCount = 16,
 }
 
 impl Refusal {

@@ -68,15 +68,16 @@ fn cards(stack: &[u8]) -> Result<ChunksExact<'_, u8>, Refusal> {
 mod tests {
     use super::{find, list, MOST_CARDS};
     use crate::card::{self, Facts, OPEN, SIZE};
+    use crate::layout::Numbers;
     use crate::refusal::Refusal;
 
     /// A card of item 7, open, 720 by 576.
     fn card_of_7() -> [u8; SIZE] {
-        written(2, [2, 2, 1, 10, 4, 0, 10, 20])
+        written(2, [2, 2, 1, 10, 4, 0, 10, 20, 0])
     }
 
     /// The same in a layout, written at an edition.
-    fn written(edition: u8, layout: [u8; 8]) -> [u8; SIZE] {
+    fn written(edition: u8, layout: Numbers) -> [u8; SIZE] {
         let facts = Facts {
             layout,
             width: 720,
@@ -90,11 +91,17 @@ mod tests {
     }
 
     #[test]
-    fn the_older_full_range_is_of_edition_3() {
-        let stack = [written(3, [2, 2, 3, 8, 3, 0, 8, 16]), card_of_7()].concat();
-        assert_eq!(list(&stack), "cards 2\n7 open 720x576\n7 open 720x576\n");
-        assert_eq!(find(&stack, 3, 7), Ok(0));
-        assert_eq!(find(&stack, 2, 7), Ok(1));
+    fn the_older_full_range_is_of_edition_3_and_groups_of_4() {
+        let older = written(3, [2, 2, 3, 8, 3, 0, 8, 16, 0]);
+        let groups = written(4, [2, 2, 1, 8, 4, 0, 0, 0, 1]);
+        let mut odd = groups;
+        odd[12] += 1;
+        let stack = [odd, groups, older, card_of_7()].concat();
+        let listed = "cards 4\n- refused 16\n7 open 720x576\n7 open 720x576\n7 open 720x576\n";
+        assert_eq!(list(&stack), listed);
+        assert_eq!(find(&stack, 4, 7), Ok(1));
+        assert_eq!(find(&stack, 3, 7), Ok(2));
+        assert_eq!(find(&stack, 2, 7), Ok(3));
     }
 
     #[test]
@@ -116,8 +123,8 @@ mod tests {
         let stack = [[0; SIZE], card_of_7(), card_of_7()].concat();
         assert_eq!(find(&stack, 2, 7), Ok(1));
         assert_eq!(find(&stack, 2, 8), Err(Refusal::NoItem));
-        assert_eq!(find(&stack, 4, 8), Err(Refusal::Edition));
-        assert_eq!(find(&stack[1..], 4, 8), Err(Refusal::Size));
+        assert_eq!(find(&stack, 5, 8), Err(Refusal::Edition));
+        assert_eq!(find(&stack[1..], 5, 8), Err(Refusal::Size));
         assert_eq!(find(&[], 1, 7), Err(Refusal::NoItem));
     }
 }

@@ -50,10 +50,12 @@ pub const LEAST: usize = 0;
 pub const WRITTEN: usize = 1;
 pub const RANGE: usize = 4;
 pub const DEPTH: usize = 5;
+pub const SAMPLING: usize = 7;
+pub const WIDTH: usize = 12;
 pub const ITEM: usize = 16;
 pub const ACCESS: usize = 24;
 
-pub const KNOWN_EDITIONS: [u8; 3] = [1, 2, 3];
+pub const KNOWN_EDITIONS: [u8; 4] = [1, 2, 3, 4];
 
 /// Lengths of room for a card, of which one is right.
 const ROOMS: [usize; 5] = [SIZE, 0, SIZE - 1, SIZE + 1, 2 * SIZE];

@@ -7,7 +7,7 @@ use reference::history::Book;
 use crate::card::cards;
 use crate::card::{KNOWN_EDITIONS, SIZE};
 use crate::guarded::{Guarded, Outcome};
-use crate::layouts::bytes_a_point;
+use crate::layouts::{bytes_a_point, packed_length, points_each};
 use crate::library::card::Told;
 use crate::library::{Layout, Library};
 use crate::part::{part, Part};
@@ -19,14 +19,15 @@ pub mod replays;
 
 pub const PARTS: &[Part] = &[
     part("histories in one call", replays::random),
+    part("histories, captured lines", captured),
     part("histories, every short one", every_short_one),
     part("histories, random", random),
 ];
 
-const EDITIONS: [u8; 7] = [0, 1, 2, 3, 4, 5, 255];
+const EDITIONS: [u8; 8] = [0, 1, 2, 3, 4, 5, 6, 255];
 
 /// Those of random histories: most are known.
-const MOSTLY_KNOWN: [u8; 10] = [2, 3, 3, 2, 3, 1, 0, 4, 5, 255];
+const MOSTLY_KNOWN: [u8; 12] = [2, 3, 4, 2, 3, 4, 4, 1, 0, 5, 6, 255];
 
 const ROOMS: [usize; 5] = [0, SIZE - 1, SIZE, SIZE + 1, 2 * SIZE];
 
@@ -77,7 +78,7 @@ impl Seen {
         let mut told = Told::new();
         let last = (library.card_read)(&mut card, asked.last, &mut told);
         let decoded = (last == 0).then(|| {
-            let layout = told.layout.elements().try_into().expect("eight numbers");
+            let layout = told.layout.elements().try_into().expect("nine numbers");
             Outcome::of(asked.floats, |out| {
                 (library.decode_line)(layout, &asked.packed, out)
             })
@@ -175,13 +176,20 @@ fn facts(first: u8, layout: Layout, access: u8, turn: usize) -> Option<Facts> {
 
 /// Every list of up to two rewrites and every last edition, and every list of three
 /// that are each at an edition that is known or refused. Of the layouts that need
-/// edition 1, of those that need 2 and of those that need 3, one has a turn.
+/// edition 1, 2, 3 and 4, one each has a turn.
 fn every_short_one(library: &Library, tally: &mut Tally) -> Flow {
     let all: Vec<Rewrite> = EDITIONS
         .iter()
         .flat_map(|&edition| ROOMS.map(|room| (edition, room)))
         .collect();
-    let some = [(1, SIZE), (2, SIZE), (3, SIZE), (4, SIZE), (3, SIZE - 1)];
+    let some = [
+        (1, SIZE),
+        (2, SIZE),
+        (3, SIZE),
+        (4, SIZE),
+        (5, SIZE),
+        (4, SIZE - 1),
+    ];
     let mut random = Random::new();
     let lists = short_lists(&all, 2).chain(short_lists(&some, 3));
     for (turn, rewrites) in lists.enumerate() {
@@ -189,6 +197,7 @@ fn every_short_one(library: &Library, tally: &mut Tally) -> Flow {
             cards::layout([8, 10][turn % 2]),
             cards::layout(12),
             cards::older([8, 10, 12][turn % 3]),
+            cards::groups(),
         ];
         for first in KNOWN_EDITIONS {
             for layout in layouts {
@@ -204,7 +213,7 @@ fn every_short_one(library: &Library, tally: &mut Tally) -> Flow {
                             floats,
                         };
                         compare(library, tally, &asked)?;
-                        let last = 2 + (turn % 2) as u8;
+                        let last = 2 + (turn % 3) as u8;
                         compare(library, tally, &Asked { last, ..asked })?;
                     }
                 }
@@ -231,7 +240,7 @@ fn random(library: &Library, tally: &mut Tally) -> Flow {
     let mut random = Random::new();
     for turn in 0..HISTORIES {
         let first = KNOWN_EDITIONS[random.below(KNOWN_EDITIONS.len())];
-        let layout = cards::layouts()[random.below(6)];
+        let layout = any_layout(&mut random);
         let access = random.below(3) as u8;
         let Some(facts) = facts(first, layout, access, turn) else {
             continue;
@@ -255,6 +264,38 @@ fn random(library: &Library, tally: &mut Tally) -> Flow {
     Flow::Continue(())
 }
 
+/// Captured lines of no points, of few, of as many as there may be and of more, with bytes
+/// left over, into as many floats as they need and into others: of points and of groups,
+/// by single calls and in one.
+fn captured(library: &Library, tally: &mut Tally) -> Flow {
+    let mut random = Random::new();
+    for (turn, layout) in cards::layouts().into_iter().enumerate() {
+        let each = points_each(layout);
+        let bytes = bytes_a_point(layout);
+        for length in [0, 1, 2, 9, 4096 / each - 1, 4096 / each, 4096 / each + 1] {
+            for left_over in 0..bytes {
+                let packed: Vec<u8> = (0..length * bytes + left_over)
+                    .map(|_| random.next() as u8)
+                    .collect();
+                let needed = 3 * length * each;
+                for floats in [needed, needed + 1, needed + 3, needed.saturating_sub(3)] {
+                    let asked = Asked {
+                        first: 4,
+                        facts: cards::facts_in_turn(layout, turn),
+                        rewrites: vec![(4, SIZE)],
+                        last: 4,
+                        packed: packed.clone(),
+                        floats,
+                    };
+                    compare(library, tally, &asked)?;
+                    replays::compare(library, tally, &replays::replaying(&asked))?;
+                }
+            }
+        }
+    }
+    Flow::Continue(())
+}
+
 fn edition(random: &mut Random, without_1: bool) -> u8 {
     match MOSTLY_KNOWN[random.below(MOSTLY_KNOWN.len())] {
         1 if without_1 => 2,
@@ -271,12 +312,25 @@ fn room(random: &mut Random) -> usize {
     }
 }
 
-/// A line of up to four points, and a length of floats: three a point, but every
-/// eighth time another. Every eighth line has bytes left over.
+/// A layout of a card. Every third has groups.
+fn any_layout(random: &mut Random) -> Layout {
+    let layouts = cards::layouts();
+    match random.one_in(3) {
+        true => cards::groups(),
+        false => layouts[random.below(layouts.len())],
+    }
+}
+
+/// A line of up to four points or groups, and a length of floats: three a point, but
+/// every eighth time another. Every eighth line has bytes left over, half a group's.
 fn line(facts: Facts, random: &mut Random) -> (Vec<u8>, usize) {
-    let points = random.below(5);
-    let left_over = if random.one_in(8) { 1 } else { 0 };
-    let packed = (0..points * bytes_a_point(facts.layout) + left_over)
+    let points = points_each(facts.layout) * random.below(5);
+    let left_over = if random.one_in(8) {
+        points_each(facts.layout)
+    } else {
+        0
+    };
+    let packed = (0..packed_length(facts.layout, points) + left_over)
         .map(|_| random.next() as u8)
         .collect();
     let floats = if random.one_in(8) {

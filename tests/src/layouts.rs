@@ -9,11 +9,16 @@ pub const RANGE: usize = 2;
 pub const DEPTH: usize = 3;
 pub const BYTES: usize = 4;
 pub const OFFSETS: usize = 5;
+pub const SAMPLING: usize = 8;
 
 pub const RANGES: [u8; 3] = [1, 2, 3];
 
 /// The older full range, which needs edition 3.
 pub const LEGACY: u8 = 3;
+
+/// The sampling of points of their own, and of groups, which need edition 4.
+pub const OWN: u8 = 0;
+pub const SHARED: u8 = 1;
 
 /// Bytes a point, depth, and three offsets.
 #[derive(Clone, Copy, PartialEq)]
@@ -26,7 +31,8 @@ struct Shape {
 /// Model, primaries and range.
 type Colors = [u8; 3];
 
-/// Every layout there is, but for models, primaries and ranges, which take turns.
+/// Every layout of points there is, but for models, primaries and ranges, which take
+/// turns.
 pub fn every() -> impl Iterator<Item = Layout> {
     sizes()
         .flat_map(|(bytes, depth)| {
@@ -69,6 +75,40 @@ pub fn one_of_each_size() -> impl Iterator<Item = Layout> {
         .map(layout)
 }
 
+/// Groups of two points that share their colour, in every primaries and range.
+pub fn groups() -> impl Iterator<Item = Layout> {
+    RANGES
+        .into_iter()
+        .flat_map(|range| (1..=4).map(move |primaries| group(primaries, range)))
+}
+
+/// Groups in every range, with primaries of their own.
+pub fn groups_of_each_range() -> impl Iterator<Item = Layout> {
+    RANGES.into_iter().map(|range| group(1 + range, range))
+}
+
+pub const fn group(primaries: u8, range: u8) -> Layout {
+    [2, primaries, range, 8, 4, 0, 0, 0, SHARED]
+}
+
+/// The chosen layouts, and groups of each range.
+pub fn chosen_for_lines() -> impl Iterator<Item = Layout> {
+    chosen().chain(groups_of_each_range())
+}
+
+/// One layout of each size and depth, and groups of each range.
+pub fn one_of_each_size_and_groups() -> impl Iterator<Item = Layout> {
+    one_of_each_size().chain(groups_of_each_range())
+}
+
+/// One layout of each size and depth, with both models and every range, and groups of
+/// each range.
+pub fn all_scales_and_groups() -> impl Iterator<Item = Layout> {
+    one_of_each_size()
+        .flat_map(on_every_scale)
+        .chain(groups_of_each_range())
+}
+
 /// The layout with both models and every range, so that its depth meets every scale.
 pub fn on_every_scale(layout: Layout) -> impl Iterator<Item = Layout> {
     let colors = RANGES
@@ -94,8 +134,40 @@ pub fn changed(layout: Layout) -> impl Iterator<Item = Layout> {
     })
 }
 
+/// The bytes of a point, or of a group.
 pub fn bytes_a_point(layout: Layout) -> usize {
     usize::from(layout[BYTES])
+}
+
+pub fn is_grouped(layout: Layout) -> bool {
+    layout[SAMPLING] == SHARED
+}
+
+/// How many points lie in these bytes.
+pub fn points_each(layout: Layout) -> usize {
+    if is_grouped(layout) {
+        2
+    } else {
+        1
+    }
+}
+
+/// The packed bytes of so many points. The last of an odd number needs a whole group.
+pub fn packed_length(layout: Layout, points: usize) -> usize {
+    points.div_ceil(points_each(layout)) * bytes_a_point(layout)
+}
+
+/// The codes or floats of the points that are whole in so many packed bytes, three a
+/// point.
+pub fn elements_in(layout: Layout, packed_bytes: usize) -> usize {
+    let points = packed_bytes.checked_div(bytes_a_point(layout));
+    3 * points_each(layout) * points.unwrap_or(0)
+}
+
+/// Whether a code or float is looked at where points are made of a line, by its place:
+/// all are, but for the colour of a group's second point.
+pub fn is_looked_at(layout: Layout, place: usize) -> bool {
+    !is_grouped(layout) || place % 6 < 4
 }
 
 /// The sizes of points with the depths for which they have bits enough.
@@ -181,6 +253,7 @@ fn layout((shape, [model, primaries, range]): (Shape, Colors)) -> Layout {
         first,
         second,
         third,
+        OWN,
     ]
 }
 

@@ -23,9 +23,9 @@ pub mod program;
 /// Model, range, depth and channel, in this order.
 pub type Setting = [u8; 4];
 
-/// Model, primaries, range, depth, bytes a point, and the bit offset of channel
-/// 0, 1, 2, in this order.
-pub type Layout = [u8; 8];
+/// Model, primaries, range, depth, bytes a point, the bit offset of channel 0, 1, 2,
+/// and the sampling, in this order.
+pub type Layout = [u8; 9];
 
 /// Primaries, depth, the range of the given codes, and that of the codes made, in
 /// this order.
@@ -183,7 +183,7 @@ fn quantize<M: Memory>(
 fn descriptor_read<M: Memory>(bytes: &[u8], layout: &mut Guarded<u8>) -> i64 {
     assert_eq!(layout.length(), size_of::<Layout>());
     let mut memory = M::of(Entry::DescriptorRead);
-    // SAFETY: the pointers are to as many elements as the lengths say, eight for
+    // SAFETY: the pointers are to as many elements as the lengths say, nine for
     // the layout, and nothing else uses the output.
     let answer = unsafe {
         ffi::imurraqi_descriptor_read(

@@ -6,7 +6,6 @@ use reference::refusal::Refusal;
 
 use crate::clamped::{counted, Clamped};
 use crate::guarded::{Guarded, Outcome};
-use crate::layouts::bytes_a_point;
 use crate::library::{Layout, Library};
 use crate::part::{part, Part};
 use crate::quantization::refused;
@@ -14,6 +13,7 @@ use crate::tally::{Flow, Tally};
 
 mod cuts;
 mod examples;
+pub mod groups;
 pub mod inputs;
 mod lengths;
 mod refusals;
@@ -209,9 +209,4 @@ fn compare_encode_point(
 /// As many elements as a description shows.
 fn start<T>(elements: &[T]) -> &[T] {
     &elements[..elements.len().min(12)]
-}
-
-/// The packed bytes of so many points.
-fn packed_length(layout: Layout, points: usize) -> usize {
-    points * bytes_a_point(layout)
 }

@@ -32,6 +32,7 @@ pub fn entry_parts() -> impl Iterator<Item = &'static Part> {
         quantization::PARTS,
         field::PARTS,
         lines::PARTS,
+        lines::groups::PARTS,
         descriptor::PARTS,
         color::PARTS,
         card::PARTS,
@@ -44,7 +45,9 @@ pub fn entry_parts() -> impl Iterator<Item = &'static Part> {
 
 /// Every part that goes through a whole domain: once, of the library that is linked.
 pub fn whole_parts() -> impl Iterator<Item = &'static Part> {
-    color::WHOLE_PARTS.iter()
+    [lines::groups::WHOLE_PARTS, color::WHOLE_PARTS]
+        .into_iter()
+        .flatten()
 }
 
 /// Every part that needs no library.

@@ -1,5 +1,5 @@
 //! A plain program, which knows nothing of the reference's numbers: values in
-//! float arithmetic, fields from a point of zeros, points bit by bit, descriptors
+//! float arithmetic, fields from a point of zeros, points and groups bit by bit, descriptors
 //! byte by byte, colors over one denominator, cards row by row, stacks from their
 //! end. Its pieces can be exchanged for wrong ones.
 
@@ -25,9 +25,13 @@ pub const PLAIN: Library = Library {
     unpack_line: |layout, packed, out| lines::unpacked(layout, packed, out, lines::place),
     pack_line: |layout, codes, out| lines::packed(layout, codes, out, lines::place),
     decode_line: |layout, packed, out| lines::decoded(layout, packed, out, line, |p, q| p / q),
-    decode_point: |layout, bytes, out| lines::decoded(layout, bytes, out, line, |p, q| p / q),
+    decode_point: |layout, bytes, out| {
+        lines::single(layout, || {
+            lines::decoded(layout, bytes, out, line, |p, q| p / q)
+        })
+    },
     encode_line: |layout, values, out| lines::encoded(layout, values, out, QUANTIZE),
-    encode_point: |layout, values, out| lines::encoded(layout, &values, out, QUANTIZE),
+    encode_point: |layout, values, out| lines::encoded_point(layout, values, out, QUANTIZE),
     descriptor_read: |bytes, out| {
         descriptor::read(bytes, out, descriptor::rising, descriptor::limits)
     },

@@ -45,6 +45,7 @@ mod ends;
 mod field;
 mod field_bytes;
 mod field_code;
+mod groups;
 mod history;
 mod list;
 mod pack;
@@ -110,6 +111,28 @@ pub const WRONG: &[(&[Part], &[Wrong])] = &[
     (lines::PARTS, cut_stores::ENCODING_A_LINE),
     (&[lines::rising::PART], rising::ENCODING),
     (&[lines::rising::PART], rising::IN_LINES),
+    (lines::groups::PARTS, groups::orders::WRONG),
+    (lines::groups::PARTS, groups::orders::ON_SCALES),
+    (lines::groups::PARTS, groups::reading::PLACES),
+    (lines::groups::PARTS, groups::reading::CHANGES),
+    (lines::groups::PARTS, groups::reading::ANSWERS),
+    (lines::groups::PARTS, groups::reading::ACCEPTED),
+    (lines::groups::PARTS, groups::reading::AS_POINTS),
+    (lines::groups::PARTS, groups::colors::WRONG),
+    (lines::groups::PARTS, groups::colors::CUTS),
+    (lines::groups::PARTS, groups::colors::TAKEN),
+    (lines::groups::PARTS, groups::refusals::ANSWERS),
+    (lines::groups::PARTS, groups::refusals::ACCEPTED),
+    (lines::groups::PARTS, groups::refusals::OTHERS),
+    (lines::groups::PARTS, groups::turns::WRONG),
+    (lines::groups::PARTS, groups::layouts::RANGES),
+    (lines::groups::WHOLE_PARTS, groups::orders::WRONG),
+    (lines::groups::WHOLE_PARTS, groups::orders::ON_SCALES),
+    (lines::groups::PARTS, groups::layouts::WRONG),
+    (lines::groups::PARTS, groups::others::POINTS),
+    (lines::PARTS, groups::refusals::OF_POINTS),
+    (fields::PARTS, groups::others::FIELDS),
+    (descriptors::PARTS, groups::others::DESCRIPTORS),
     (descriptors::PARTS, descriptor::WRONG),
     (colors::PARTS, color::WRONG),
     (colors::PARTS, ends::CONVERTING),
@@ -133,8 +156,14 @@ pub const WRONG: &[(&[Part], &[Wrong])] = &[
     (cards::PARTS, card_write::WRONG),
     (cards::PARTS, card_write_refusals::WRONG),
     (cards::PARTS, card_rewrite::WRONG),
+    (cards::PARTS, groups::cards::READING),
+    (cards::PARTS, groups::cards::WRITING_A_CARD),
+    (cards::PARTS, groups::cards::REWRITING),
     (histories::PARTS, history::WRONG),
+    (histories::PARTS, groups::history::WRONG),
     (stacks::PARTS, stack::WRONG),
     (stacks::PARTS, stack_refusals::WRONG),
+    (stacks::PARTS, groups::cards::FINDING),
     (lists::PARTS, list::WRONG),
+    (lists::PARTS, groups::cards::LISTING),
 ];

@@ -20,21 +20,36 @@ pub fn cases() -> Result<Vec<Case>, String> {
         .map(|index| any_facts(&mut random, 1 + index))
         .collect();
     let cards: Vec<Asked> = facts.iter().map(|facts| (card(*facts), NEWEST)).collect();
+    let odd = odd_facts(&mut random);
     Ok(vec![
-        read(cards.clone())?,
-        write(facts)?,
-        rewrite(cards)?,
+        read(cards.clone(), odd)?,
+        write(facts, odd)?,
+        rewrite(cards, odd)?,
         find(&mut random)?,
     ])
 }
 
+/// One in eight has groups, and an even width.
 pub fn any_facts(random: &mut Random, item: u64) -> Facts {
+    let (layout, width) = match random.below(8) {
+        0 => (random.groups(), 2 + 2 * random.code(11)),
+        _ => (random.layout(), 1 + random.code(12)),
+    };
     Facts {
-        layout: random.layout(),
-        width: 1 + random.code(12),
+        layout,
+        width,
         height: 1 + random.code(12),
         item,
         access: random.below(3),
+    }
+}
+
+/// Facts of groups whose width is odd.
+fn odd_facts(random: &mut Random) -> Facts {
+    Facts {
+        layout: random.groups(),
+        width: 719,
+        ..any_facts(random, 1)
     }
 }
 
@@ -44,19 +59,23 @@ fn card(facts: Facts) -> Vec<u8> {
     card
 }
 
-/// A card too short, an edition that is not known, and cards with a wrong byte.
-fn wrong(card: &[u8]) -> Vec<Asked> {
+/// A card too short, an edition that is not known, cards with a wrong byte, and one of
+/// groups whose width is odd.
+fn wrong(card: &[u8], odd: Facts) -> Vec<Asked> {
     let mut wrong = vec![(card[1..].to_vec(), NEWEST), (card.to_vec(), NEWEST + 1)];
     for (place, byte) in PLACES {
         let mut card = card.to_vec();
         card[place] = byte;
         wrong.push((card, NEWEST));
     }
+    let mut odd_card = self::card(Facts { width: 720, ..odd });
+    odd_card[12..14].copy_from_slice(&odd.width.to_le_bytes());
+    wrong.push((odd_card, NEWEST));
     wrong
 }
 
-fn read(cards: Vec<Asked>) -> Result<Case, String> {
-    let wrong = wrong(&cards[0].0);
+fn read(cards: Vec<Asked>, odd: Facts) -> Result<Case, String> {
+    let wrong = wrong(&cards[0].0, odd);
     Case::calls(
         label("card_read", "32 bytes", "any facts"),
         cards,
@@ -73,7 +92,7 @@ fn read(cards: Vec<Asked>) -> Result<Case, String> {
     )
 }
 
-fn write(facts: Vec<Facts>) -> Result<Case, String> {
+fn write(facts: Vec<Facts>, odd: Facts) -> Result<Case, String> {
     let first = Facts {
         access: 2,
         ..facts[0]
@@ -82,6 +101,7 @@ fn write(facts: Vec<Facts>) -> Result<Case, String> {
     let refused = [
         (NEWEST + 1, first, BYTES),
         (NEWEST, outside, BYTES),
+        (NEWEST, odd, BYTES),
         (1, first, BYTES),
         (NEWEST, first, BYTES - 1),
     ];
@@ -104,10 +124,10 @@ fn write(facts: Vec<Facts>) -> Result<Case, String> {
     )
 }
 
-fn rewrite(cards: Vec<Asked>) -> Result<Case, String> {
+fn rewrite(cards: Vec<Asked>, odd: Facts) -> Result<Case, String> {
     let whole = |(card, edition)| (card, edition, BYTES);
     let (card, edition) = cards[0].clone();
-    let mut refused: Vec<(Vec<u8>, u8, usize)> = wrong(&card).into_iter().map(whole).collect();
+    let mut refused: Vec<(Vec<u8>, u8, usize)> = wrong(&card, odd).into_iter().map(whole).collect();
     refused.push((card, edition, BYTES - 1));
     Case::calls(
         label("card_rewrite", "32 bytes", "any facts"),

@@ -65,6 +65,7 @@ fn add(
             numbers: [primaries, depth, range_in, range_out],
             elements: codes.clone(),
             output: codes.len(),
+            points_each: 1,
         };
         let mut refused = [line.clone(), line.clone(), line.clone()];
         refused[0].numbers = [0, depth, range_in, range_out];

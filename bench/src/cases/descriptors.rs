@@ -31,12 +31,16 @@ pub fn cases() -> Result<Vec<Case>, String> {
             |bytes, layout| plain::descriptors::read(bytes, layout),
         ],
     )?;
-    let outside = [2, 5, 1, 8, 3, 0, 8, 16];
+    let outside = [2, 5, 1, 8, 3, 0, 8, 16, 0];
     let asked = |layout: &Numbers| (*layout, BYTES);
     let write = Case::calls(
         label("descriptor_write", "76 bytes", "any layouts"),
         layouts.iter().map(asked).collect(),
-        &[(outside, BYTES), (layouts[0], BYTES - 1)],
+        &[
+            (outside, BYTES),
+            (random.groups(), BYTES),
+            (layouts[0], BYTES - 1),
+        ],
         [0; BYTES],
         [
             |(layout, length), out| library::descriptors::write(*layout, &mut out[..*length]),

@@ -15,7 +15,11 @@ pub fn cases() -> Result<Vec<Case>, String> {
     let any = |_| (random.layout(), random.below(3));
     let asked: Vec<Asked> = (0..MANY).map(any).collect();
     let (layout, channel) = asked[0];
-    let outside: [Asked; 2] = [([0; 8], channel), (layout, 3)];
+    let outside: [Asked; 3] = [
+        (Numbers::default(), channel),
+        (layout, 3),
+        (random.groups(), channel),
+    ];
     Ok(vec![
         field_bytes(&asked, &outside)?,
         field_code(&mut random, &asked, &outside)?,

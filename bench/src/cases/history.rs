@@ -6,7 +6,8 @@ use crate::case::Case;
 use crate::library;
 use crate::plain;
 use crate::plain::cards::{BYTES, NEWEST};
-use crate::plain::history::{History, Replayed};
+use crate::plain::history::{History, Replayed, READ};
+use crate::plain::layout::packed_bytes;
 use crate::random::Random;
 
 const HISTORIES: u64 = 32;
@@ -33,7 +34,7 @@ pub fn cases() -> Result<Vec<Case>, String> {
             outputs: vec![0; lengths().iter().sum()],
             answers: vec![0; REWRITES],
             values: vec![0.0; 3 * POINTS],
-            read: [0; 13],
+            read: [0; READ],
             decoded: [0; 2],
         },
         [library::history::replay, plain::history::replay],
@@ -45,7 +46,6 @@ pub fn cases() -> Result<Vec<Case>, String> {
 /// one in nine at an edition that is not known, and a third are at 2.
 fn any_history(random: &mut Random, item: u64) -> History {
     let facts = any_facts(random, item);
-    let [_, _, _, _, bytes, ..] = facts.layout;
     let edition = |_| match random.below(9) {
         0 => 1,
         1 => NEWEST + 1,
@@ -59,7 +59,7 @@ fn any_history(random: &mut Random, item: u64) -> History {
         editions,
         lengths: lengths(),
         last: NEWEST,
-        packed: (0..POINTS * usize::from(bytes))
+        packed: (0..packed_bytes(facts.layout, POINTS))
             .map(|_| random.next() as u8)
             .collect(),
     }

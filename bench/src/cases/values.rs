@@ -72,7 +72,11 @@ fn decode_point(before: Option<&Before>) -> Result<Case, String> {
     };
     let points: Vec<(Numbers, [u8; LONGEST], usize)> = (0..MANY).map(point).collect();
     let (layout, bytes, length) = points[0];
-    let refused = [([0; 8], bytes, length), (layout, bytes, length - 1)];
+    let refused = [
+        (Numbers::default(), bytes, length),
+        (random.groups(), bytes, 4),
+        (layout, bytes, length - 1),
+    ];
     let before = before.and_then(Before::decode_point).map(|job| {
         call_side(
             move |(layout, bytes, length), point| job(*layout, &bytes[..*length], point),
@@ -107,7 +111,8 @@ fn encode_point(before: Option<&Before>) -> Result<Case, String> {
     let points: Vec<(Numbers, [f32; 3], usize)> = (0..MANY).map(point).collect();
     let (layout, values, length) = points[0];
     let refused = [
-        ([0; 8], values, length),
+        (Numbers::default(), values, length),
+        (random.groups(), values, 4),
         (layout, values, length - 1),
         (layout, [0.0, 0.0, f32::NAN], length),
     ];

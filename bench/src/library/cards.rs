@@ -6,7 +6,7 @@ use crate::plain::cards::{Facts, Numbered};
 use crate::plain::layout::Numbers;
 
 pub fn read(card: &[u8], edition: u8, layout: &mut Numbers, numbers: &mut Numbered) -> i64 {
-    // SAFETY: the pointers are to as many bytes as the length says, to eight and to
+    // SAFETY: the pointers are to as many bytes as the length says, to nine and to
     // four numbers, and nothing else uses the outputs.
     unsafe { ffi::imurraqi_card_read(card.as_ptr(), card.len(), edition, layout, numbers) }
 }

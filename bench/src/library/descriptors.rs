@@ -5,7 +5,7 @@ use imurraqi::ffi;
 use crate::plain::layout::Numbers;
 
 pub fn read(bytes: &[u8], layout: &mut Numbers) -> i64 {
-    // SAFETY: the pointers are to as many bytes as the length says and to eight,
+    // SAFETY: the pointers are to as many bytes as the length says and to nine,
     // and nothing else uses the output.
     unsafe { ffi::imurraqi_descriptor_read(bytes.as_ptr(), bytes.len(), layout) }
 }

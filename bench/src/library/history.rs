@@ -5,8 +5,8 @@ use imurraqi::ffi;
 use crate::plain::history::{History, Replayed};
 
 pub fn replay(history: &History, replayed: &mut Replayed) -> i64 {
-    // SAFETY: the pointers are to as many elements as the lengths say, eight for
-    // the layout, thirteen and two for the last, and nothing else uses the outputs.
+    // SAFETY: the pointers are to as many elements as the lengths say, nine for
+    // the layout, fourteen and two for the last, and nothing else uses the outputs.
     unsafe {
         ffi::imurraqi_replay(
             history.first,

@@ -27,7 +27,7 @@ pub fn encode_line(layout: Numbers, values: &[f32], packed: &mut [u8], cuts: &mu
 }
 
 pub fn decode_point(layout: Numbers, packed: &[u8], point: &mut [f32; 3]) -> i64 {
-    // SAFETY: the pointers are to as many bytes as the length says, to eight and to
+    // SAFETY: the pointers are to as many bytes as the length says, to nine and to
     // three floats, and nothing else uses the output.
     unsafe { ffi::imurraqi_decode_point(&layout, packed.as_ptr(), packed.len(), point) }
 }

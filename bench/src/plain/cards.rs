@@ -1,13 +1,15 @@
 //! Cards and stacks in plain Rust.
 
 use super::layout::{self, Numbers};
-use super::refusal::{ACCESS, EDITION, LATER_EDITION, LENGTH, NO_ITEM, OUTSIDE, SIZE, UNWRITABLE};
+use super::refusal::{
+    ACCESS, EDITION, LATER_EDITION, LENGTH, NO_ITEM, ODD_COUNT, OUTSIDE, SIZE, UNWRITABLE,
+};
 
 pub const BYTES: usize = 32;
 pub const MOST_CARDS: usize = 1024;
 
 /// The newest edition.
-pub const NEWEST: u8 = 3;
+pub const NEWEST: u8 = 4;
 
 const CLOSED: u8 = 0;
 const OPEN: u8 = 2;
@@ -42,6 +44,9 @@ pub fn write(edition: u8, facts: Facts, out: &mut [u8]) -> i64 {
     if !facts.valid() {
         return OUTSIDE;
     }
+    if facts.odd() {
+        return ODD_COUNT;
+    }
     let least = least_edition(facts.layout);
     if edition < least || edition == 1 && facts.access != CLOSED {
         return UNWRITABLE;
@@ -53,7 +58,8 @@ pub fn write(edition: u8, facts: Facts, out: &mut [u8]) -> i64 {
     out[0] = least;
     out[1] = edition;
     out[2..7].copy_from_slice(&facts.layout[..5]);
-    out[8..11].copy_from_slice(&facts.layout[5..]);
+    out[7] = facts.layout[8];
+    out[8..11].copy_from_slice(&facts.layout[5..8]);
     out[12..14].copy_from_slice(&facts.width.to_le_bytes());
     out[14..16].copy_from_slice(&facts.height.to_le_bytes());
     out[16..24].copy_from_slice(&facts.item.to_le_bytes());
@@ -98,17 +104,22 @@ pub fn shown(card: &[u8], edition: u8) -> Result<Facts, i64> {
     if least > edition {
         return Err(LATER_EDITION);
     }
-    let [_, _, model, primaries, range, depth, bytes, _, first, second, third, ..] = *card;
+    let [_, _, model, primaries, range, depth, bytes, sampling, first, second, third, ..] = *card;
     let facts = Facts {
-        layout: [model, primaries, range, depth, bytes, first, second, third],
+        layout: [
+            model, primaries, range, depth, bytes, first, second, third, sampling,
+        ],
         width: u16::from_le_bytes([card[12], card[13]]),
         height: u16::from_le_bytes([card[14], card[15]]),
         item: number(card, 16),
         access: CLOSED,
     };
     let right = facts.valid() && least == least_edition(facts.layout) && least <= writer;
-    if !right || card[7] != 0 || card[11] != 0 {
+    if !right || card[11] != 0 {
         return Err(OUTSIDE);
+    }
+    if facts.odd() {
+        return Err(ODD_COUNT);
     }
     let access = shown_access(number(card, 24), writer, edition)?;
     Ok(Facts { access, ..facts })
@@ -146,10 +157,17 @@ impl Facts {
             && self.item != 0
             && self.access <= OPEN
     }
+
+    /// Whether a line is not of whole groups.
+    fn odd(self) -> bool {
+        layout::grouped(self.layout) && self.width % 2 == 1
+    }
 }
 
-fn least_edition([_, _, range, depth, ..]: Numbers) -> u8 {
+fn least_edition(layout: Numbers) -> u8 {
+    let [_, _, range, depth, ..] = layout;
     match (range, depth) {
+        _ if layout::grouped(layout) => 4,
         (3, _) => 3,
         (_, 12) => 2,
         _ => 1,

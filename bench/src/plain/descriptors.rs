@@ -19,13 +19,14 @@ pub fn read(bytes: &[u8], layout: &mut Numbers) -> i64 {
 }
 
 pub fn write(layout: Numbers, out: &mut [u8]) -> i64 {
-    if !layout::valid(layout) {
+    if !layout::valid_points(layout) {
         return OUTSIDE;
     }
     let Ok(out) = <&mut [u8; BYTES]>::try_from(out) else {
         return LENGTH;
     };
-    let [model, primaries, range, depth, bytes, offsets @ ..] = layout;
+    let [model, primaries, range, depth, bytes, first, second, third, _] = layout;
+    let offsets = [first, second, third];
     *out = [0; BYTES];
     out[..12].copy_from_slice(&FRONT);
     out[12..15].copy_from_slice(&[model, primaries, ITU]);
@@ -72,8 +73,10 @@ fn read_into(bytes: &[u8], layout: &mut Numbers) -> Result<(), i64> {
     if range == 0 {
         return Err(NO_RANGE);
     }
-    layout[..5].copy_from_slice(&[model, primaries, range, depth, size]);
-    layout[5..].copy_from_slice(&offsets);
+    let [first, second, third] = offsets;
+    *layout = [
+        model, primaries, range, depth, size, first, second, third, 0,
+    ];
     Ok(())
 }
 

@@ -34,9 +34,9 @@ pub fn field_code(layout: Numbers, channel: u8, bytes: &[u8]) -> i64 {
 }
 
 fn field(numbers: Numbers, channel: u8) -> Option<Field> {
-    let [_, _, _, depth, _, offsets @ ..] = numbers;
-    let offset = *offsets.get(usize::from(channel))?;
-    layout::valid(numbers).then(|| Field::new(depth.into(), offset.into()))
+    let [_, _, _, depth, _, first, second, third, _] = numbers;
+    let offset = *[first, second, third].get(usize::from(channel))?;
+    layout::valid_points(numbers).then(|| Field::new(depth.into(), offset.into()))
 }
 
 // Inlined early, so that the loops of lines are seen as they are.

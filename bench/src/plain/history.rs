@@ -4,6 +4,9 @@ use super::cards::{self, Facts, BYTES};
 use super::lines;
 use super::refusal::LENGTH;
 
+/// The numbers of a reading: its refusal's, layout, width, height, item, access.
+pub const READ: usize = 14;
+
 /// What a replay is given.
 #[derive(Clone, Debug)]
 pub struct History {
@@ -22,7 +25,7 @@ pub struct Replayed {
     pub outputs: Vec<u8>,
     pub answers: Vec<u8>,
     pub values: Vec<f32>,
-    pub read: [u64; 13],
+    pub read: [u64; READ],
     pub decoded: [u64; 2],
 }
 
@@ -55,14 +58,14 @@ pub fn replay(history: &History, replayed: &mut Replayed) -> i64 {
         }
         *answer = -rewritten as u8;
     }
-    *read = [0; 13];
+    *read = [0; READ];
     *decoded = [0; 2];
     match cards::shown(card, history.last) {
         Ok(facts) => {
-            for (place, number) in read[1..9].iter_mut().zip(facts.layout) {
+            for (place, number) in read[1..10].iter_mut().zip(facts.layout) {
                 *place = number.into();
             }
-            read[9..].copy_from_slice(&facts.numbers());
+            read[10..].copy_from_slice(&facts.numbers());
             let answer = lines::decode_line(facts.layout, &history.packed, values);
             decoded[usize::from(answer >= 0)] = answer.unsigned_abs();
         }

@@ -1,8 +1,12 @@
 //! A layout as the plain program uses it, checked once a line.
 
-/// Model, primaries, range, depth, bytes a point, and the bit offset of channel
-/// 0, 1, 2: the eight numbers of the C interface.
-pub type Numbers = [u8; 8];
+/// Model, primaries, range, depth, bytes a point, the bit offset of channel 0, 1, 2, and
+/// the sampling: the nine numbers of the C interface.
+pub type Numbers = [u8; 9];
+
+/// The sampling of points of their own, and of groups of two.
+const OWN: u8 = 0;
+const SHARED: u8 = 1;
 
 pub const MOST_POINTS: usize = 4096;
 
@@ -24,30 +28,56 @@ pub struct Scale {
     pub top: i64,
 }
 
+/// Whether the numbers are those of groups, good or not.
+pub fn grouped([.., sampling]: Numbers) -> bool {
+    sampling == SHARED
+}
+
 /// Whether the numbers are a layout's.
 pub fn valid(numbers: Numbers) -> bool {
-    let [model, primaries, range, depth, bytes, offsets @ ..] = numbers;
+    valid_points(numbers) || valid_groups(numbers)
+}
+
+/// The same of points of their own.
+pub fn valid_points(numbers: Numbers) -> bool {
+    let [model, _, _, depth, bytes, first, second, third, sampling] = numbers;
     let known = matches!(model, 1 | 2)
-        && matches!(primaries, 1..=4)
-        && matches!(range, 1..=3)
+        && valid_colors(numbers)
         && matches!(depth, 8 | 10 | 12)
-        && matches!(bytes, 3..=8);
+        && matches!(bytes, 3..=8)
+        && sampling == OWN;
     let within = |offset: u8| u32::from(offset) + u32::from(depth) <= 8 * u32::from(bytes);
     let apart = |one: u8, other: u8| one.abs_diff(other) >= depth;
-    let [first, second, third] = offsets;
     known
-        && offsets.into_iter().all(within)
+        && [first, second, third].into_iter().all(within)
         && apart(first, second)
         && apart(first, third)
         && apart(second, third)
 }
 
+/// The same of groups.
+pub fn valid_groups(numbers: Numbers) -> bool {
+    matches!(numbers, [2, _, _, 8, 4, 0, 0, 0, SHARED]) && valid_colors(numbers)
+}
+
+fn valid_colors([_, primaries, range, ..]: Numbers) -> bool {
+    matches!(primaries, 1..=4) && matches!(range, 1..=3)
+}
+
+/// The packed bytes of so many points, in whole groups where they are grouped.
+pub fn packed_bytes(numbers: Numbers, points: usize) -> usize {
+    let [_, _, _, _, bytes, ..] = numbers;
+    let each = if grouped(numbers) { 2 } else { 1 };
+    points / each * usize::from(bytes)
+}
+
 impl Layout {
-    /// Inlined, so that nothing is worked out that a job does not use.
+    /// None where points share their colour. Inlined, so that nothing is worked out that a
+    /// job does not use.
     #[inline]
     pub fn new(numbers: Numbers) -> Option<Layout> {
-        let [model, _, range, depth, bytes, first, second, third] = numbers;
-        valid(numbers).then(|| {
+        let [model, _, range, depth, bytes, first, second, third, _] = numbers;
+        valid_points(numbers).then(|| {
             let brightness = Scale::new(range, depth, false);
             let difference = Scale::new(range, depth, model == 2);
             Layout {

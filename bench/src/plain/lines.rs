@@ -1,15 +1,20 @@
 //! Lines and points in plain Rust, of the same shape as the library: the layout and
 //! the lengths are looked at once, and codes and floats are checked in a pass of
 //! their own without an early exit. Codes are read from the bytes of their fields
-//! alone. For packing and encoding each size of point has its own loop.
+//! alone. For packing and encoding each size of point has its own loop. Groups have loops
+//! of their own in groups.rs.
 
 use super::fields::Field;
-use super::layout::{Layout, Numbers, Scale};
+use super::groups;
+use super::layout::{grouped, Layout, Numbers, Scale};
 use super::refusal::{CODE_TOO_HIGH, LENGTH, NOT_A_NUMBER, OUTSIDE};
 
-const INFINITY: u32 = 255 << 23;
+pub const INFINITY: u32 = 255 << 23;
 
 pub fn unpack_line(layout: Numbers, packed: &[u8], codes: &mut [u16]) -> i64 {
+    if grouped(layout) {
+        return groups::unpack_line(layout, packed, codes);
+    }
     let Some(layout) = Layout::new(layout) else {
         return OUTSIDE;
     };
@@ -21,6 +26,9 @@ pub fn unpack_line(layout: Numbers, packed: &[u8], codes: &mut [u16]) -> i64 {
 }
 
 pub fn pack_line(layout: Numbers, codes: &[u16], packed: &mut [u8]) -> i64 {
+    if grouped(layout) {
+        return groups::pack_line(layout, codes, packed);
+    }
     let Some(layout) = Layout::new(layout) else {
         return OUTSIDE;
     };
@@ -43,6 +51,9 @@ pub fn pack_line(layout: Numbers, codes: &[u16], packed: &mut [u8]) -> i64 {
 }
 
 pub fn decode_line(layout: Numbers, packed: &[u8], values: &mut [f32]) -> i64 {
+    if grouped(layout) {
+        return groups::decode_line(layout, packed, values);
+    }
     let Some(layout) = Layout::new(layout) else {
         return OUTSIDE;
     };
@@ -54,6 +65,9 @@ pub fn decode_line(layout: Numbers, packed: &[u8], values: &mut [f32]) -> i64 {
 }
 
 pub fn encode_line(layout: Numbers, values: &[f32], packed: &mut [u8], cuts: &mut u32) -> i64 {
+    if grouped(layout) {
+        return groups::encode_line(layout, values, packed, cuts);
+    }
     let Some(layout) = Layout::new(layout) else {
         return OUTSIDE;
     };
@@ -208,7 +222,7 @@ pub fn code(scale: Scale, value: f32) -> (u64, bool) {
 }
 
 /// The bits of a float without its sign.
-fn magnitude(value: f32) -> u32 {
+pub fn magnitude(value: f32) -> u32 {
     value.to_bits() & !(1 << 31)
 }
 

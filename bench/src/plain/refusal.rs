@@ -15,3 +15,4 @@ pub const NOT_A_NUMBER: i64 = -12;
 pub const LENGTH: i64 = -13;
 pub const CODE_TOO_HIGH: i64 = -14;
 pub const NO_ITEM: i64 = -15;
+pub const ODD_COUNT: i64 = -16;

@@ -12,8 +12,9 @@ pub const MOST_CARDS: usize = 1024;
 
 /// The newest edition: 1 to this are known. Edition 1 has narrow and full range at 8
 /// and 10 bits, and no access; 2 also has 12 bits and access; 3 also has
-/// [legacy full range](crate::range::LEGACY_FULL).
-pub const NEWEST_EDITION: u8 = 3;
+/// [legacy full range](crate::range::LEGACY_FULL); 4 also has
+/// [groups](crate::sampling::GROUPS).
+pub const NEWEST_EDITION: u8 = 4;
 
 /// Who may see an item.
 pub mod access {
@@ -30,7 +31,7 @@ pub mod access {
 pub struct Facts {
     /// The layout of its points.
     pub layout: Layout,
-    /// Points a line: 1 to 4,096.
+    /// Points a line: 1 to 4,096, and of groups an even number.
     pub width: u16,
     /// Lines: 1 to 4,096.
     pub height: u16,
@@ -59,8 +60,8 @@ impl Facts {
 }
 
 /// What a card shows at an edition, 1 to [`NEWEST_EDITION`]. Refused: 1, 7, 9 where
-/// byte 0 is 0, 8, 9 for bytes 1 to 23 and a byte 0 that is not the layout's, 10, 9 for
-/// bytes 24 to 31.
+/// byte 0 is 0, 8, 9 for bytes 1 to 23 and a byte 0 that is not the layout's, 16 for an
+/// odd width of groups, 10, 9 for bytes 24 to 31.
 ///
 /// ```
 /// use imurraqi::{access, card_read, Refusal, NEWEST_EDITION};
@@ -91,13 +92,14 @@ pub fn card_read(card: &[u8], edition: u8) -> Result<Facts, Refusal> {
     Ok(Facts::read(layout, numbers))
 }
 
-/// Writes the card of facts at an edition, [`CARD_SIZE`] bytes. Refused: 7, 9, 11, 13.
+/// Writes the card of facts at an edition, [`CARD_SIZE`] bytes. Refused: 7, 9, 16 for an
+/// odd width of groups, 11, 13.
 ///
 /// ```
 /// use imurraqi::{access, card_read, card_write, range, Facts, Layout, Refusal, CARD_SIZE};
 ///
 /// let mut facts = Facts {
-///     layout: Layout::from_bytes([2, 2, 1, 10, 4, 0, 10, 20]),
+///     layout: Layout::from_bytes([2, 2, 1, 10, 4, 0, 10, 20, 0]),
 ///     width: 720,
 ///     height: 576,
 ///     item: 7,
@@ -112,6 +114,13 @@ pub fn card_read(card: &[u8], edition: u8) -> Result<Facts, Refusal> {
 /// assert_eq!(card_write(2, facts, &mut card), Err(Refusal::UNWRITABLE));
 /// assert_eq!(card_write(3, facts, &mut card), Ok(()));
 /// assert_eq!(card_read(&card, 2), Err(Refusal::LATER_EDITION));
+/// // Groups, which edition 4 has.
+/// facts.layout = Layout::from_bytes([2, 2, 1, 8, 4, 0, 0, 0, 1]);
+/// assert_eq!(card_write(3, facts, &mut card), Err(Refusal::UNWRITABLE));
+/// assert_eq!(card_write(4, facts, &mut card), Ok(()));
+/// assert_eq!(card_read(&card, 4), Ok(facts));
+/// facts.width = 719;
+/// assert_eq!(card_write(4, facts, &mut card), Err(Refusal::ODD_COUNT));
 /// ```
 #[inline]
 pub fn card_write(edition: u8, facts: Facts, out: &mut [u8]) -> Result<(), Refusal> {

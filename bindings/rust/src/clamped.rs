@@ -5,7 +5,7 @@ use crate::Refusal;
 
 /// How many points there are, and how many of their values were cut: those whose
 /// rounded number lay beyond the ends of the codes that the range makes, and infinities.
-/// A line has three values a point.
+/// A line has three values a point; Cb and Cr of a group's second point are not looked at.
 #[derive(Clone, Copy, Debug, PartialEq, Eq, Hash)]
 pub struct Clamped {
     /// The count of points.

@@ -90,7 +90,7 @@ pub fn rgb_to_ycbcr(
 /// ```
 /// use imurraqi::{range, ycbcr_to_rgb, Clamped, Conversion, Layout};
 ///
-/// let layout = Layout::from_bytes([2, 2, 1, 10, 4, 0, 10, 20]);
+/// let layout = Layout::from_bytes([2, 2, 1, 10, 4, 0, 10, 20, 0]);
 /// let to_full = layout.conversion(range::FULL);
 /// let mut made = [0; 6];
 /// let answer = ycbcr_to_rgb(to_full, &[326, 361, 960, 1019, 512, 512], &mut made);

@@ -7,12 +7,13 @@ use crate::{Layout, Refusal};
 /// How many bytes a descriptor has.
 pub const DESCRIPTOR_SIZE: usize = 76;
 
-/// The layout that a descriptor tells. Refused: 1 to 6, in this order.
+/// The layout that a descriptor tells, of points of their own. Refused: 1 to 6, in this
+/// order.
 ///
 /// ```
 /// use imurraqi::{descriptor_read, descriptor_write, Layout, Refusal, DESCRIPTOR_SIZE};
 ///
-/// let layout = Layout::from_bytes([2, 2, 1, 10, 4, 0, 10, 20]);
+/// let layout = Layout::from_bytes([2, 2, 1, 10, 4, 0, 10, 20, 0]);
 /// let mut descriptor = [0; DESCRIPTOR_SIZE];
 /// descriptor_write(layout, &mut descriptor)?;
 /// assert_eq!(descriptor_read(&descriptor)?, layout);
@@ -28,14 +29,17 @@ pub fn descriptor_read(bytes: &[u8]) -> Result<Layout, Refusal> {
     Ok(Layout::from_bytes(layout))
 }
 
-/// Writes the descriptor of a layout, [`DESCRIPTOR_SIZE`] bytes. Refused: 9, then 13.
+/// Writes the descriptor of a layout, [`DESCRIPTOR_SIZE`] bytes. Groups have none.
+/// Refused: 9, for groups too, then 13.
 ///
 /// ```
 /// use imurraqi::{descriptor_write, Layout, Refusal, DESCRIPTOR_SIZE};
 ///
 /// let mut descriptor = [0; DESCRIPTOR_SIZE];
-/// let no_model = Layout::from_bytes([3, 2, 1, 10, 4, 0, 10, 20]);
+/// let no_model = Layout::from_bytes([3, 2, 1, 10, 4, 0, 10, 20, 0]);
 /// assert_eq!(descriptor_write(no_model, &mut descriptor), Err(Refusal::OUTSIDE));
+/// let groups = Layout::from_bytes([2, 2, 1, 8, 4, 0, 0, 0, 1]);
+/// assert_eq!(descriptor_write(groups, &mut descriptor), Err(Refusal::OUTSIDE));
 /// assert_eq!(descriptor, [0; DESCRIPTOR_SIZE]);
 /// ```
 #[inline]

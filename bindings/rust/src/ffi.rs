@@ -8,9 +8,9 @@
 //! what is written to overlaps nothing else that is given.
 
 extern "C" {
-    pub fn imurraqi_descriptor_read(bytes: *const u8, len: usize, layout: *mut [u8; 8]) -> i64;
+    pub fn imurraqi_descriptor_read(bytes: *const u8, len: usize, layout: *mut [u8; 9]) -> i64;
 
-    pub fn imurraqi_descriptor_write(layout: *const [u8; 8], out: *mut u8, out_len: usize) -> i64;
+    pub fn imurraqi_descriptor_write(layout: *const [u8; 9], out: *mut u8, out_len: usize) -> i64;
 
     pub fn imurraqi_dequantize(
         model: u8,
@@ -31,14 +31,14 @@ extern "C" {
     ) -> i64;
 
     pub fn imurraqi_decode_point(
-        layout: *const [u8; 8],
+        layout: *const [u8; 9],
         bytes: *const u8,
         len: usize,
         point: *mut [f32; 3],
     ) -> i64;
 
     pub fn imurraqi_decode_line(
-        layout: *const [u8; 8],
+        layout: *const [u8; 9],
         packed: *const u8,
         len: usize,
         out: *mut f32,
@@ -46,7 +46,7 @@ extern "C" {
     ) -> i64;
 
     pub fn imurraqi_encode_point(
-        layout: *const [u8; 8],
+        layout: *const [u8; 9],
         channel0: f32,
         channel1: f32,
         channel2: f32,
@@ -56,7 +56,7 @@ extern "C" {
     ) -> i64;
 
     pub fn imurraqi_encode_line(
-        layout: *const [u8; 8],
+        layout: *const [u8; 9],
         values: *const f32,
         len: usize,
         out: *mut u8,
@@ -64,17 +64,17 @@ extern "C" {
         cuts: *mut u32,
     ) -> i64;
 
-    pub fn imurraqi_field_bytes(layout: *const [u8; 8], channel: u8, first: *mut u8) -> i64;
+    pub fn imurraqi_field_bytes(layout: *const [u8; 9], channel: u8, first: *mut u8) -> i64;
 
     pub fn imurraqi_field_code(
-        layout: *const [u8; 8],
+        layout: *const [u8; 9],
         channel: u8,
         bytes: *const u8,
         len: usize,
     ) -> i64;
 
     pub fn imurraqi_unpack_line(
-        layout: *const [u8; 8],
+        layout: *const [u8; 9],
         packed: *const u8,
         len: usize,
         out: *mut u16,
@@ -82,7 +82,7 @@ extern "C" {
     ) -> i64;
 
     pub fn imurraqi_pack_line(
-        layout: *const [u8; 8],
+        layout: *const [u8; 9],
         codes: *const u16,
         len: usize,
         out: *mut u8,
@@ -117,13 +117,13 @@ extern "C" {
         card: *const u8,
         len: usize,
         edition: u8,
-        layout: *mut [u8; 8],
+        layout: *mut [u8; 9],
         facts: *mut [u64; 4],
     ) -> i64;
 
     pub fn imurraqi_card_write(
         edition: u8,
-        layout: *const [u8; 8],
+        layout: *const [u8; 9],
         width: u16,
         height: u16,
         item: u64,
@@ -142,7 +142,7 @@ extern "C" {
 
     pub fn imurraqi_replay(
         first: u8,
-        layout: *const [u8; 8],
+        layout: *const [u8; 9],
         width: u16,
         height: u16,
         item: u64,
@@ -162,7 +162,7 @@ extern "C" {
         packed_len: usize,
         values: *mut f32,
         values_len: usize,
-        read: *mut [u64; 13],
+        read: *mut [u64; 14],
         decoded: *mut [u64; 2],
     ) -> i64;
 

@@ -7,13 +7,13 @@ use crate::refusal::answer;
 use crate::{Layout, Refusal};
 
 /// The places in a point of the bytes that hold the field of a channel: one to three,
-/// side by side. Refused: 9.
+/// side by side. Refused: 9, for groups too.
 ///
 /// ```
 /// use imurraqi::{field_bytes, Layout, Refusal};
 ///
 /// // Of four bytes a point, 10 bits each at bits 0, 10 and 20.
-/// let layout = Layout::from_bytes([2, 2, 1, 10, 4, 0, 10, 20]);
+/// let layout = Layout::from_bytes([2, 2, 1, 10, 4, 0, 10, 20, 0]);
 /// assert_eq!(field_bytes(layout, 0), Ok(0..2));
 /// assert_eq!(field_bytes(layout, 1), Ok(1..3));
 /// assert_eq!(field_bytes(layout, 2), Ok(2..4));
@@ -30,13 +30,13 @@ pub fn field_bytes(layout: Layout, channel: u8) -> Result<Range<usize>, Refusal>
 }
 
 /// The code of a channel, from only the bytes that hold its field, as [`field_bytes`]
-/// tells them. Bits in them that are not the field's are not looked at. Refused: 9,
-/// then 13 for any other number of bytes.
+/// tells them. Bits in them that are not the field's are not looked at. Refused: 9, for
+/// groups too, then 13 for any other number of bytes.
 ///
 /// ```
 /// use imurraqi::{field_bytes, field_code, Layout, Refusal};
 ///
-/// let layout = Layout::from_bytes([2, 2, 1, 10, 4, 0, 10, 20]);
+/// let layout = Layout::from_bytes([2, 2, 1, 10, 4, 0, 10, 20, 0]);
 /// let point = [0xae, 0x00, 0x0f, 0x04];
 /// assert_eq!(field_code(layout, 1, &point[field_bytes(layout, 1)?]), Ok(960));
 /// assert_eq!(field_code(layout, 1, &[0x00, 0x0f]), Ok(960));

@@ -42,25 +42,25 @@ pub struct Replayed {
 }
 
 /// Writes a card, rewrites it at each of the editions, reads it, and decodes a line
-/// by the layout that is read. Refused: 7, 9 or 11, as the first writing is; then 13
+/// by the layout that is read. Refused: 7, 9, 16 or 11, as the first writing is; then 13
 /// where the card's place, the three lists or the lengths do not fit together.
 ///
 /// ```
 /// use imurraqi::{access, replay, Facts, History, Layout, Refusal};
 ///
 /// let facts = Facts {
-///     layout: Layout::from_bytes([2, 2, 1, 10, 4, 0, 10, 20]),
+///     layout: Layout::from_bytes([2, 2, 1, 10, 4, 0, 10, 20, 0]),
 ///     width: 720,
 ///     height: 576,
 ///     item: 7,
 ///     access: access::OPEN,
 /// };
 /// let (mut card, mut outputs, mut answers, mut values) = ([0; 32], [0; 64], [0; 2], [0.0; 3]);
-/// // Written at 2; refused at 4, which is not known; rewritten at 1, which closes it.
+/// // Written at 2; refused at 5, which is not known; rewritten at 1, which closes it.
 /// let replayed = replay(History {
 ///     first: 2,
 ///     facts,
-///     editions: &[4, 1],
+///     editions: &[5, 1],
 ///     lengths: &[32, 32],
 ///     last: 2,
 ///     packed: &[0xae, 0x00, 0x0f, 0x04],

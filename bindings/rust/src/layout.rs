@@ -34,10 +34,19 @@ pub mod range {
     pub const LEGACY_FULL: u8 = 3;
 }
 
-/// How a point lies in its bytes.
+/// Whether points share their Cb and Cr.
+pub mod sampling {
+    /// Points of their own.
+    pub const OWN: u8 = 0;
+    /// Groups of two points that share Cb and Cr: four bytes, Cb, Y', Cr, Y', of 8 bits
+    /// each.
+    pub const GROUPS: u8 = 1;
+}
+
+/// How a point, or a group of two, lies in its bytes.
 ///
 /// ```
-/// use imurraqi::{model, primaries, range, Layout};
+/// use imurraqi::{model, primaries, range, sampling, Layout};
 ///
 /// let layout = Layout {
 ///     model: model::YCBCR,
@@ -46,9 +55,20 @@ pub mod range {
 ///     depth: 10,
 ///     bytes: 4,
 ///     offsets: [0, 10, 20],
+///     sampling: sampling::OWN,
 /// };
-/// assert_eq!(layout.to_bytes(), [2, 2, 1, 10, 4, 0, 10, 20]);
+/// assert_eq!(layout.to_bytes(), [2, 2, 1, 10, 4, 0, 10, 20, 0]);
 /// assert_eq!(Layout::from_bytes(layout.to_bytes()), layout);
+///
+/// // The one form of groups, in any range and with any primaries.
+/// let groups = Layout {
+///     depth: 8,
+///     bytes: 4,
+///     offsets: [0; 3],
+///     sampling: sampling::GROUPS,
+///     ..layout
+/// };
+/// assert_eq!(groups.to_bytes(), [2, 2, 1, 8, 4, 0, 0, 0, 1]);
 /// ```
 #[derive(Clone, Copy, Debug, PartialEq, Eq, Hash)]
 pub struct Layout {
@@ -60,20 +80,22 @@ pub struct Layout {
     pub range: u8,
     /// Bits a channel: 8, 10 or 12.
     pub depth: u8,
-    /// Bytes a point: 3 to 8.
+    /// Bytes a point, 3 to 8, or a group, 4.
     pub bytes: u8,
-    /// Where the fields of channels 0, 1 and 2 begin, in bits.
+    /// Where the fields of channels 0, 1 and 2 begin, in bits; of groups zeros.
     pub offsets: [u8; 3],
+    /// One of [`sampling`].
+    pub sampling: u8,
 }
 
 impl Layout {
     /// How many bytes a layout has in the C interface.
-    pub const SIZE: usize = 8;
+    pub const SIZE: usize = 9;
 
     /// The layout of the C interface's bytes.
     #[inline]
     pub const fn from_bytes(bytes: [u8; Layout::SIZE]) -> Layout {
-        let [model, primaries, range, depth, bytes, offsets @ ..] = bytes;
+        let [model, primaries, range, depth, bytes, offsets @ .., sampling] = bytes;
         Layout {
             model,
             primaries,
@@ -81,6 +103,7 @@ impl Layout {
             depth,
             bytes,
             offsets,
+            sampling,
         }
     }
 
@@ -94,8 +117,11 @@ impl Layout {
             depth,
             bytes,
             offsets: [first, second, third],
+            sampling,
         } = self;
-        [model, primaries, range, depth, bytes, first, second, third]
+        [
+            model, primaries, range, depth, bytes, first, second, third, sampling,
+        ]
     }
 
     /// One channel of it.

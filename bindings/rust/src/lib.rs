@@ -6,13 +6,13 @@
 //! that was lent to be written to has changed. No call panics, and any numbers and
 //! any lengths may be given: what the library does not know, it refuses. So models,
 //! ranges, depths, editions and accesses are plain numbers here, and those that are
-//! known have names ([`model`], [`primaries`], [`range`], [`access`]).
+//! known have names ([`model`], [`primaries`], [`range`], [`sampling`], [`access`]).
 //!
 //! ```
 //! use imurraqi::{decode_line, range, ycbcr_to_rgb, unpack_line, Layout, Refusal};
 //!
 //! // Y'CbCr of BT.601, narrow, 10 bits a channel in 4 bytes a point.
-//! let layout = Layout::from_bytes([2, 2, 1, 10, 4, 0, 10, 20]);
+//! let layout = Layout::from_bytes([2, 2, 1, 10, 4, 0, 10, 20, 0]);
 //! let packed = [0xac, 0x03, 0x08, 0x20, 0x46, 0xa5, 0x05, 0x3c];
 //! let (mut codes, mut colors, mut values) = ([0; 6], [0; 6], [0.0; 6]);
 //!
@@ -56,7 +56,7 @@ pub use colors::{rgb_to_ycbcr, ycbcr_to_rgb, Conversion};
 pub use descriptors::{descriptor_read, descriptor_write, DESCRIPTOR_SIZE};
 pub use fields::{field_bytes, field_code};
 pub use history::{replay, History, Replayed};
-pub use layout::{model, primaries, range, Layout};
+pub use layout::{model, primaries, range, sampling, Layout};
 pub use lines::{
     decode_line, decode_point, encode_line, encode_point, pack_line, unpack_line, MOST_POINTS,
 };

@@ -13,7 +13,7 @@ abbrev pub shownNumber : CardReading → ℤ
 shownNumber (Shown f) = pos 0
 shownNumber (NotShown k) = negℤ (pos k)
 
--- the eight bytes behind the first output's pointer: the layout's, or what stood there before where the card is refused
+-- the nine bytes behind the first output's pointer: the layout's, or what stood there before where the card is refused
 abbrev pub shownLayout : CardReading → List ℕ → List ℕ
 shownLayout (Shown f) before = layoutBytes (f .layout)
 shownLayout (NotShown k) before = before

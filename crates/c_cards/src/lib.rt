@@ -20,7 +20,7 @@ use refusal::Written;
 pub extern "C" fn imurraqi_card_read(
     card: &[u8],
     edition: u8,
-    layout: &mut [u8; 8],
+    layout: &mut [u8; 9],
     facts: &mut [u64; 4],
 ) -> i64
     ensures answer { λ r. ⌜ r ≡ shownNumber (readCard (now (card .entry)) edition) ⌝ }
@@ -46,7 +46,7 @@ pub extern "C" fn imurraqi_card_read(
 #[no_mangle]
 pub extern "C" fn imurraqi_card_write(
     edition: u8,
-    layout: &[u8; 8],
+    layout: &[u8; 9],
     width: u16,
     height: u16,
     item: u64,

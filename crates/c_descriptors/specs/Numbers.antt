@@ -11,7 +11,7 @@ abbrev pub readNumber : DescriptorReading → ℤ
 readNumber (Accepted l) = pos 0
 readNumber (NoLayout k) = negℤ (pos k)
 
--- the eight bytes behind the pointer: the layout's, or what stood there before where it is refused
+-- the nine bytes behind the pointer: the layout's, or what stood there before where it is refused
 abbrev pub readLayout : DescriptorReading → List ℕ → List ℕ
 readLayout (Accepted l) before = layoutBytes l
 readLayout (NoLayout k) before = before

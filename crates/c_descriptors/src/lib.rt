@@ -14,7 +14,7 @@ use refusal::Written;
 
 // The layout that a descriptor tells. Answers 0.
 #[no_mangle]
-pub extern "C" fn imurraqi_descriptor_read(bytes: &[u8], layout: &mut [u8; 8]) -> i64
+pub extern "C" fn imurraqi_descriptor_read(bytes: &[u8], layout: &mut [u8; 9]) -> i64
     ensures answer { λ r. ⌜ r ≡ readNumber (readDescriptor (now (bytes .entry))) ⌝ }
     ensures memory { λ _. ⌜ now (layout .exit) ≡ readLayout (readDescriptor (now (bytes .entry))) (now (layout .entry)) ⌝ }
 {
@@ -29,7 +29,7 @@ pub extern "C" fn imurraqi_descriptor_read(bytes: &[u8], layout: &mut [u8; 8]) -
 
 // Writes the descriptor of a layout. Answers 0.
 #[no_mangle]
-pub extern "C" fn imurraqi_descriptor_write(layout: &[u8; 8], out: &mut [u8]) -> i64
+pub extern "C" fn imurraqi_descriptor_write(layout: &[u8; 9], out: &mut [u8]) -> i64
     ensures answer { λ r. ⌜ r ≡ writtenNumber (writeAnswer (layoutOf (now (layout .entry))) (length (now (out .entry)))) ⌝ }
     ensures memory { λ _. ⌜ now (out .exit) ≡ writeOutput (layoutOf (now (layout .entry))) (now (out .entry)) ⌝ }
 {

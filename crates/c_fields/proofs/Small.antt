@@ -5,8 +5,8 @@ use Prim.Native.Nat.{ℕ, _≤_}
 use native.Mathlib.Omega.{arith}
 use Rattle.lists.proofs.Tests.{and-left, stop, pass}
 use Rattle.layout.specs.declared.Layout.{Layout}
-use Rattle.layout.specs.Layout.{channelKnown, validLayout}
-use Rattle.layout.proofs.Facts.{valid-says}
+use Rattle.layout.specs.Layout.{channelKnown, validPoints}
+use Rattle.layout.proofs.Facts.{points-say}
 use Rattle.field.specs.declared.field.Field.{Field}
 use Rattle.field.specs.declared.FieldBytes.{FieldBytes}
 use Rattle.field.specs.declared.FieldBytes.the-variants.{Held, Refused}
@@ -24,9 +24,9 @@ small l channel = go (fieldKnown l channel) refl
     go : (t : Bool) → fieldKnown l channel ≡ t → Small (bytesAnswer l channel)
     go false e = subst Small (sym (stop _ (ap not e))) tt
     go true e =
-        let ok = and-left (validLayout l) (channelKnown channel) e in
+        let ok = and-left (validPoints l) (channelKnown channel) e in
         let p = placed l channel ok in
-        let v = valid-says l ok in
+        let v = points-say l ok in
         subst Small (sym (pass _ (ap not e) refl)) (omega (arith, p .inside, v .bytes-most), omega (arith, p .inside, v .bytes-most))
 
 pub held-small : (l : Layout) (channel : ℕ) (f : Field) → bytesAnswer l channel ≡ Held f → (f .first ≤ 8) × (f .count ≤ 8)

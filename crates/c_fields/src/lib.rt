@@ -10,7 +10,7 @@ use field::FieldCode;
 
 // The code of a channel, in just the bytes that hold its field.
 #[no_mangle]
-pub extern "C" fn imurraqi_field_code(layout: &[u8; 8], channel: u8, bytes: &[u8]) -> i64
+pub extern "C" fn imurraqi_field_code(layout: &[u8; 9], channel: u8, bytes: &[u8]) -> i64
     ensures answer { λ r. ⌜ r ≡ codeNumber (codeAnswer (layoutOf (now (layout .entry))) channel (now (bytes .entry))) ⌝ }
 {
     match field::field_code(layout_of(layout), channel, bytes) {
@@ -21,7 +21,7 @@ pub extern "C" fn imurraqi_field_code(layout: &[u8; 8], channel: u8, bytes: &[u8
 
 // How many bytes of a point hold the field of a channel, and the first of them.
 #[no_mangle]
-pub extern "C" fn imurraqi_field_bytes(layout: &[u8; 8], channel: u8, first: &mut u8) -> i64
+pub extern "C" fn imurraqi_field_bytes(layout: &[u8; 9], channel: u8, first: &mut u8) -> i64
     ensures answer { λ r. ⌜ r ≡ countNumber (bytesAnswer (layoutOf (now (layout .entry))) channel) ⌝ }
     ensures memory { λ _. ⌜ now (first .exit) ≡ firstAfter (bytesAnswer (layoutOf (now (layout .entry))) channel) (now (first .entry)) ⌝ }
 {

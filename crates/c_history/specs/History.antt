@@ -14,7 +14,7 @@ use Rattle.c_types.specs.Layouts.{layoutBytes}
 -- the last reading: 0 and its layout, width, height, item and access, or the refusal's number and zeros
 abbrev pub readNumbers : CardReading → List ℕ
 readNumbers (Shown f) = 0 ∷ (layoutBytes (f .layout) ++ (f .width ∷ f .height ∷ f .item ∷ f .access ∷ []))
-readNumbers (NotShown k) = k ∷ replicate 12 0
+readNumbers (NotShown k) = k ∷ replicate 13 0
 
 -- the decoding: 0 and the count of points, or the refusal's number and 0
 abbrev pub decodedNumbers : LineAnswer → List ℕ

@@ -10,11 +10,11 @@ use custody::Replayed;
 use line::LineAnswer;
 
 // The numbers of the last reading.
-fn read_numbers(reading: CardReading) -> [u64; 13]
+fn read_numbers(reading: CardReading) -> [u64; 14]
     ensures { λ r. ⌜ r ≡ readNumbers reading ⌝ }
 {
     match reading {
-        CardReading::Refused(number) => [number as u64, 0, 0, 0, 0, 0, 0, 0, 0, 0, 0, 0, 0],
+        CardReading::Refused(number) => [number as u64, 0, 0, 0, 0, 0, 0, 0, 0, 0, 0, 0, 0, 0],
         CardReading::Shown(facts) => {
             let layout = facts.layout;
             [
@@ -27,6 +27,7 @@ fn read_numbers(reading: CardReading) -> [u64; 13]
                 layout.offset0 as u64,
                 layout.offset1 as u64,
                 layout.offset2 as u64,
+                layout.sampling as u64,
                 facts.width as u64,
                 facts.height as u64,
                 facts.item,
@@ -50,7 +51,7 @@ fn decoded_numbers(decoding: LineAnswer) -> [u64; 2]
 #[no_mangle]
 pub extern "C" fn imurraqi_replay(
     first: u8,
-    layout: &[u8; 8],
+    layout: &[u8; 9],
     width: u16,
     height: u16,
     item: u64,
@@ -63,7 +64,7 @@ pub extern "C" fn imurraqi_replay(
     last: u8,
     packed: &[u8],
     values: &mut [f32],
-    read: &mut [u64; 13],
+    read: &mut [u64; 14],
     decoded: &mut [u64; 2],
 ) -> i64
     ensures { λ r. ⌜ (let g : Given = record {

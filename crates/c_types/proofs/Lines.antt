@@ -1,6 +1,6 @@
 -- The answers of lines are numbers that an i64 holds. Assumes nothing.
 use mathlib.Core.Path.{_≡_, refl, ap, _∙_}
-use mathlib.Core.Bool.{Bool, true, false, not, cond}
+use mathlib.Core.Bool.{Bool, true, false, cond}
 use Prim.Native.Nat.{ℕ, _*_, _/_, _%_, _≤_, _<_}
 use native.Mathlib.Omega.{arith}
 use borrow.Author.Tests.{leb-true, le-leb, lt-leb}
@@ -9,31 +9,23 @@ use lib.IntN.{ℤ, pos}
 use mir.Syntax.{w64}
 use mir.Val.{toZ, ofZ}
 use Rattle.lists.proofs.Tests.{and3}
-use Rattle.refusal.specs.Refusal.{outside, wrongLineOrOutput}
 use Rattle.line.specs.declared.LineAnswer.{LineAnswer}
 use Rattle.line.specs.declared.LineAnswer.the-variants.{Points, Refused}
 use Rattle.line.specs.declared.ClampedAnswer.{ClampedAnswer}
-use Rattle.line.specs.declared.ClampedAnswer.the-variants.{Points as PointsAndCuts, Refused as NotClamped}
+use Rattle.line.specs.declared.ClampedAnswer.the-variants.{Refused as NotClamped}
 use Rattle.line.specs.Answer.{mostPoints, fitting}
 use Rattle.c_types.specs.Numbers.{lineNumber, withoutCuts, clampedNumber, cutsAfter, counted}
 use Rattle.c_types.proofs.Numbers.{passed, passed-count}
 
--- a count that a line can have, or a refusal's number of at most 15
+-- a count that a line can have, or a refusal's number of at most 16
 abbrev pub smallLine : LineAnswer → Bool
 smallLine (Points n) = leb n mostPoints
-smallLine (Refused k) = leb k 15
+smallLine (Refused k) = leb k 16
 
--- the rows of a line's refusal, of two tests and of three
-pub two : (a b : Bool) (r : LineAnswer) → (b ≡ true → smallLine r ≡ true) → smallLine (cond (not a) (Refused outside) (cond (not b) (Refused wrongLineOrOutput) r)) ≡ true
-two false b r h = refl
-two true false r h = refl
-two true true r h = h refl
-
-pub three : (a b c : Bool) (k : ℕ) (r : LineAnswer) → leb k 15 ≡ true → (a ≡ true → b ≡ true → smallLine r ≡ true) → smallLine (cond (not a) (Refused outside) (cond (not b) (Refused wrongLineOrOutput) (cond (not c) (Refused k) r))) ≡ true
-three false b c k r g h = refl
-three true false c k r g h = refl
-three true true false k r g h = g
-three true true true k r g h = h refl refl
+-- one row of a line's refusals, and what follows where it does not apply
+pub row : (t : Bool) (k : ℕ) (r : LineAnswer) → leb k 16 ≡ true → (t ≡ false → smallLine r ≡ true) → smallLine (cond t (Refused k) r) ≡ true
+row true k r g h = g
+row false k r g h = h refl
 
 -- a line that fits has few points
 pub count : (n per output each : ℕ) → fitting n per output each ≡ true → leb (n / per) mostPoints ≡ true
@@ -57,19 +49,16 @@ passed-points n z e = go (leb n mostPoints) refl e
 -- a line's number handed on by a call
 passed-line : (a : LineAnswer) → smallLine a ≡ true → (z : ℤ) → z ≡ cond (counted a) (lineNumber a) (pos 0) → toZ w64 (ofZ w64 z) ≡ lineNumber a
 passed-line (Points n) h z e = passed-count n (omega (arith, leb-true n mostPoints h)) z (e ∙ ap (λ (b : Bool). cond b (pos n) (pos 0)) h)
-passed-line (Refused k) h z e = passed k (omega (arith, leb-true k 15 h)) z e
+passed-line (Refused k) h z e = passed k (omega (arith, leb-true k 16 h)) z e
 
 -- and that of the answer which the library gave
 pub handed : {a : LineAnswer} (b : LineAnswer) → smallLine b ≡ true → a ≡ b → (z : ℤ) → z ≡ cond (counted a) (lineNumber a) (pos 0) → toZ w64 (ofZ w64 z) ≡ lineNumber b
 handed b h e z f = passed-line b h z (f ∙ ap (λ (a : LineAnswer). cond (counted a) (lineNumber a) (pos 0)) e)
 
--- of an answer with cuts, row by row
-pub three-clamped : (a b c : Bool) (k n cuts : ℕ) → leb k 15 ≡ true → (a ≡ true → b ≡ true → leb n mostPoints ≡ true)
-    → smallLine (withoutCuts (cond (not a) (NotClamped outside) (cond (not b) (NotClamped wrongLineOrOutput) (cond (not c) (NotClamped k) (PointsAndCuts n cuts))))) ≡ true
-three-clamped false b c k n cuts g h = refl
-three-clamped true false c k n cuts g h = refl
-three-clamped true true false k n cuts g h = g
-three-clamped true true true k n cuts g h = h refl refl
+-- the same of an answer with cuts
+pub clamped-row : (t : Bool) (k : ℕ) (r : ClampedAnswer) → leb k 16 ≡ true → (t ≡ false → smallLine (withoutCuts r) ≡ true) → smallLine (withoutCuts (cond t (NotClamped k) r)) ≡ true
+clamped-row true k r g h = g
+clamped-row false k r g h = h refl
 
 -- its number and its cuts, handed on as the library gave them
 pub handed-clamped : {a : ClampedAnswer} (b : ClampedAnswer) → smallLine (withoutCuts b) ≡ true → a ≡ b → (z : ℤ) → z ≡ cond (counted (withoutCuts a)) (clampedNumber a) (pos 0) → toZ w64 (ofZ w64 z) ≡ clampedNumber b

@@ -1,11 +1,11 @@
--- What C hands over: a layout by its eight bytes, the facts of a card by those and four numbers (include/imurraqi.h). Assumes nothing.
+-- What C hands over: a layout by its nine bytes, the facts of a card by those and four numbers (include/imurraqi.h). Assumes nothing.
 use Prim.Native.Nat.{ℕ}
 use mathlib.Core.List.{List, [], _∷_}
 use lib.ListN.{getD}
 use Rattle.layout.specs.declared.Layout.{Layout}
 use Rattle.card_table.specs.declared.facts.Facts.{Facts}
 
--- the layout of eight bytes
+-- the layout of nine bytes, the last of which is the sampling (A6)
 abbrev pub layoutOf : List ℕ → Layout
 layoutOf b =
     record {
@@ -17,11 +17,12 @@ layoutOf b =
       offset0 = getD b 5 0;
       offset1 = getD b 6 0;
       offset2 = getD b 7 0;
+      sampling = getD b 8 0;
     }
 
--- the eight bytes of a layout
+-- the nine bytes of a layout
 abbrev pub layoutBytes : Layout → List ℕ
-layoutBytes l = l .model ∷ l .primaries ∷ l .range ∷ l .depth ∷ l .bytes ∷ l .offset0 ∷ l .offset1 ∷ l .offset2 ∷ []
+layoutBytes l = l .model ∷ l .primaries ∷ l .range ∷ l .depth ∷ l .bytes ∷ l .offset0 ∷ l .offset1 ∷ l .offset2 ∷ l .sampling ∷ []
 
 -- the facts of a layout's bytes, a width, a height, an item and an access
 abbrev pub factsOf : (layout : List ℕ) (width height item access : ℕ) → Facts

@@ -49,8 +49,8 @@ pub fn clamped_number(answer: ClampedAnswer, cuts: &mut u32) -> i64
     }
 }
 
-// The layout of eight bytes.
-pub fn layout_of(bytes: &[u8; 8]) -> Layout
+// The layout of nine bytes, the last of which is the sampling.
+pub fn layout_of(bytes: &[u8; 9]) -> Layout
     ensures { λ r. ⌜ r ≡ layoutOf (now (bytes .entry)) ⌝ }
 {
     Layout {
@@ -62,11 +62,12 @@ pub fn layout_of(bytes: &[u8; 8]) -> Layout
         offset0: bytes[5],
         offset1: bytes[6],
         offset2: bytes[7],
+        sampling: bytes[8],
     }
 }
 
-// The eight bytes of a layout.
-pub fn bytes_of(layout: Layout) -> [u8; 8]
+// The nine bytes of a layout.
+pub fn bytes_of(layout: Layout) -> [u8; 9]
     ensures { λ r. ⌜ r ≡ layoutBytes layout ⌝ }
 {
     [
@@ -78,11 +79,12 @@ pub fn bytes_of(layout: Layout) -> [u8; 8]
         layout.offset0,
         layout.offset1,
         layout.offset2,
+        layout.sampling,
     ]
 }
 
 // The facts of a layout's bytes and four numbers.
-pub fn facts_of(layout: &[u8; 8], width: u16, height: u16, item: u64, access: u8) -> Facts
+pub fn facts_of(layout: &[u8; 9], width: u16, height: u16, item: u64, access: u8) -> Facts
     ensures { λ r. ⌜ r ≡ factsOf (now (layout .entry)) width height item access ⌝ }
 {
     Facts {

@@ -8,7 +8,7 @@ use native.Mathlib.Omega.{arith}
 use borrow.Author.Tests.{eqb-true}
 use lib.Dec.{eqb, leb, ltb}
 use lib.ListN.{getD}
-use Rattle.lists.proofs.Tests.{and3}
+use Rattle.lists.proofs.Tests.{and-left, and3}
 use Rattle.card_table.specs.declared.facts.Facts.{Facts}
 use Rattle.card_table.specs.Edition.{hasAccess, leastEdition}
 use Rattle.card_table.specs.Facts.{closed, accessKnown, factsValid}
@@ -53,13 +53,13 @@ silent w x e = go (hasAccess e) refl
 -- ---- the facts that are shown
 
 -- byte 0 and the facts, of bytes 0 to 23 that are right
-front-says : (s t u x y : Bool) → s && t && u && x && y ≡ true → (s ≡ true) × (u ≡ true)
-front-says s t u x y h = let p = and3 s t u (and3 (s && t && u) x y h .0) in (p .0, p .2)
+front-says : (s t u x : Bool) → s && t && u && x ≡ true → (s ≡ true) × (u ≡ true)
+front-says s t u x h = let p = and3 s t u (and-left (s && t && u) x h) in (p .0, p .2)
 
 module _ (b : List ℕ) (e : ℕ) (f : Facts) (a : Accepted b e f) where
   says : (eqb (getD b 0 0) (leastEdition (factsIn b e)) ≡ true) × (factsValid (factsIn b e) ≡ true)
   unfolding frontRight factsIn
-  says = front-says (eqb (getD b 0 0) (leastEdition (factsIn b e))) (leb (getD b 0 0) (writerOf b)) (factsValid (factsIn b e)) (eqb (getD b 7 0) 0) (eqb (getD b 11 0) 0) (a .front)
+  says = front-says (eqb (getD b 0 0) (leastEdition (factsIn b e))) (leb (getD b 0 0) (writerOf b)) (factsValid (factsIn b e)) (eqb (getD b 11 0) 0) (a .front)
 
   readable : ltb e (leastEdition (factsIn b e)) ≡ false
   readable = ap (ltb e) (sym (eqb-true (getD b 0 0) (leastEdition (factsIn b e)) (says .0))) ∙ a .readable
@@ -70,7 +70,7 @@ module _ (b : List ℕ) (e : ℕ) (f : Facts) (a : Accepted b e f) where
 
   valid-in : validAt e (factsIn b e) ≡ true
   unfolding validAt
-  valid-in = λ i. a .edition i && says .1 i && not (writable i)
+  valid-in = λ i. a .edition i && says .1 i && not (a .even i) && not (writable i)
 
   pub valid-shown : validAt e f ≡ true
   valid-shown = subst (λ (g : Facts). validAt e g ≡ true) (a .is) valid-in

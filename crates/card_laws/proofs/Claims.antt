@@ -9,9 +9,9 @@ use lib.Dec.{eqb}
 use lib.ListN.{length}
 use Rattle.lists.specs.Lists.{newOrKept}
 use Rattle.lists.specs.Bytes.{bytesOf}
-use Rattle.lists.proofs.Tests.{pass}
+use Rattle.lists.proofs.Tests.{pass, stop}
 use Rattle.card_table.specs.Edition.{editionKnown}
-use Rattle.card_table.specs.Facts.{factsValid}
+use Rattle.card_table.specs.Facts.{factsValid, oddWidth}
 use Rattle.card_table.specs.Table.{cardSize, cardBytes}
 use Rattle.card_reader.specs.declared.CardReading.{CardReading}
 use Rattle.card_reader.specs.declared.CardReading.the-variants.{Shown, Refused as NotShown}
@@ -23,12 +23,12 @@ use Rattle.refusal.specs.Written.{accepted}
 use Rattle.card_writer.specs.Writing.{unwritable, validAt, writeAnswer, writeOutput}
 use Rattle.card.specs.Rewriting.{thenWrite, thenOutput, rewriteAnswer, rewriteOutput}
 use Rattle.card_writer.proofs.Answers.{changed}
-use Rattle.card_laws.specs.Claims.{ShowsWhatWasWritten, WritesValidFacts, WritesNoOther, ReadsWhatWasWritten, ShowsValidFacts, NeverMoreOpen, ClosedOrAsItStands, ShowsNoOther, ShowsLaterCards, WritesNothingRefused, RewritesNothingRefused, RewritesInOrder, RewritesWhatWasShown, NeverOpens}
+use Rattle.card_laws.specs.Claims.{ShowsWhatWasWritten, WritesValidFacts, WritesNoOther, ReadsWhatWasWritten, ShowsValidFacts, NeverMoreOpen, ClosedOrAsItStands, ShowsNoOther, ShowsLaterCards, WritesNoOddWidth, ShowsNoOddWidth, WritesNothingRefused, RewritesNothingRefused, RewritesInOrder, RewritesWhatWasShown, NeverOpens}
 use Rattle.card_laws.proofs.Valid.{at, write-valid}
 use Rattle.card_laws.proofs.Written.{read-card}
 use Rattle.card_laws.proofs.Any.{valid-shown, never-more, as-it-stands}
 use Rattle.card_laws.proofs.NoOther.{no-other}
-use Rattle.card_laws.proofs.Later.{later-shown}
+use Rattle.card_laws.proofs.Later.{later-shown, odd-refused}
 use Rattle.card_laws.proofs.Rewritten.{rewrite-order, result-shows, never-opens}
 
 -- a row that did not apply
@@ -39,13 +39,15 @@ row false n rest h = (refl, h)
 pub writes-no-other : WritesNoOther
 unfolding writeAnswer validAt
 writes-no-other e f bytes h =
-    let r₃ : Written = cond (not (eqb bytes cardSize)) (Refused 13) Done in
-    let r₂ : Written = cond (unwritable e f) (Refused 11) r₃ in
+    let r₄ : Written = cond (not (eqb bytes cardSize)) (Refused 13) Done in
+    let r₃ : Written = cond (unwritable e f) (Refused 11) r₄ in
+    let r₂ : Written = cond (oddWidth f) (Refused 16) r₃ in
     let r₁ : Written = cond (not (factsValid f)) (Refused 9) r₂ in
     let h₁ = row (not (editionKnown e)) 7 r₁ h in
     let h₂ = row (not (factsValid f)) 9 r₂ (h₁ .1) in
-    let h₃ = row (unwritable e f) 11 r₃ (h₂ .1) in
-    λ i. not-false (editionKnown e) (h₁ .0) i && not-false (factsValid f) (h₂ .0) i && not (h₃ .0 i)
+    let h₃ = row (oddWidth f) 16 r₃ (h₂ .1) in
+    let h₄ = row (unwritable e f) 11 r₄ (h₃ .1) in
+    λ i. not-false (editionKnown e) (h₁ .0) i && not-false (factsValid f) (h₂ .0) i && not (h₃ .0 i) && not (h₄ .0 i)
 
 pub shows-what-was-written : ShowsWhatWasWritten
 shows-what-was-written e e′ f v = read-card e e′ f (at e f v)
@@ -72,7 +74,15 @@ shows-no-other b e f y h l = no-other b e f y (shown-says b e f h) l
 
 pub shows-later-cards : ShowsLaterCards
 unfolding cardBytes bytesOf
-shows-later-cards w e f others v n k l m = later-shown w e f others v n k l m
+shows-later-cards w e f others v o n k l m = later-shown w e f others v n k l (omega arith) o m
+
+pub writes-no-odd-width : WritesNoOddWidth
+unfolding writeAnswer
+writes-no-odd-width e f bytes k v o = pass _ (ap not k) (pass _ (ap not v) (stop _ o))
+
+pub shows-no-odd-width : ShowsNoOddWidth
+unfolding cardBytes bytesOf
+shows-no-odd-width w e f others v o n k l lw = odd-refused w e f others v n k l lw o
 
 pub writes-nothing-refused : WritesNothingRefused
 unfolding writeOutput

@@ -76,17 +76,16 @@ module _ (b : List ℕ) (e : ℕ) (a : Accepted b e (factsIn b e)) (le : writerO
       go true p = with-access p
       go false p = without p
 
-  -- bytes 0, 7 and 11
-  front-is : (getD b 0 0 ≡ leastEdition (factsIn b e)) × (getD b 7 0 ≡ 0) × (getD b 11 0 ≡ 0)
+  -- bytes 0 and 11
+  front-is : (getD b 0 0 ≡ leastEdition (factsIn b e)) × (getD b 11 0 ≡ 0)
   unfolding frontRight factsIn
   front-is =
       let s = eqb (getD b 0 0) (leastEdition (factsIn b e)) in
       let t = leb (getD b 0 0) (writerOf b) in
       let u = factsValid (factsIn b e) in
-      let x = eqb (getD b 7 0) 0 in
-      let y = eqb (getD b 11 0) 0 in
-      let r = and3 (s && t && u) x y (a .front) in
-      (eqb-true (getD b 0 0) (leastEdition (factsIn b e)) (and3 s t u (r .0) .0), eqb-true (getD b 7 0) 0 (r .1), eqb-true (getD b 11 0) 0 (r .2))
+      let x = eqb (getD b 11 0) 0 in
+      let r = and3 s t u (and-left (s && t && u) x (a .front)) in
+      (eqb-true (getD b 0 0) (leastEdition (factsIn b e)) (r .0), eqb-true (getD b 11 0) 0 (and-right (s && t && u) x (a .front)))
 
   module _ (h : (i : ℕ) → getD b i 0 < 256) where
     -- byte by byte
@@ -105,8 +104,8 @@ module _ (b : List ℕ) (e : ℕ) (a : Accepted b e (factsIn b e)) (le : writerO
         let height = sym (bytes-of-number b h 14 2) in
         let item = sym (bytes-of-number b h 16 8) in
         λ i. front-is .0 i ∷ getD b 1 0
-        ∷ getD b 2 0 ∷ getD b 3 0 ∷ getD b 4 0 ∷ getD b 5 0 ∷ getD b 6 0 ∷ front-is .1 i
-        ∷ getD b 8 0 ∷ getD b 9 0 ∷ getD b 10 0 ∷ front-is .2 i
+        ∷ getD b 2 0 ∷ getD b 3 0 ∷ getD b 4 0 ∷ getD b 5 0 ∷ getD b 6 0 ∷ getD b 7 0
+        ∷ getD b 8 0 ∷ getD b 9 0 ∷ getD b 10 0 ∷ front-is .1 i
         ∷ (width i ++ (height i ++ (item i ++ (end-is .0 i ∷ z25 i ∷ z26 i ∷ z27 i ∷ z28 i ∷ z29 i ∷ z30 i ∷ z31 i ∷ []))))
 
     card-is : b ≡ cardBytes (writerOf b) (factsIn b e)
@@ -114,5 +113,5 @@ module _ (b : List ℕ) (e : ℕ) (a : Accepted b e (factsIn b e)) (le : writerO
 
 pub no-other : (b : List ℕ) (e : ℕ) (f : Facts) → areBytes b ≡ true → Accepted b e f → writerOf b ≤ e → b ≡ cardBytes (writerOf b) f
 no-other b e f h a le =
-    let a′ : Accepted b e (factsIn b e) = record { size = a .size; edition = a .edition; readable = a .readable; front = a .front; access = a .access; end = a .end; is = refl } in
+    let a′ : Accepted b e (factsIn b e) = record { size = a .size; edition = a .edition; readable = a .readable; front = a .front; even = a .even; access = a .access; end = a .end; is = refl } in
     card-is b e a′ le (below b h) ∙ ap (cardBytes (writerOf b)) (a .is)

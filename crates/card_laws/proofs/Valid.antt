@@ -9,7 +9,7 @@ use Rattle.lists.proofs.Tests.{and-left, and-right, and3, pass}
 use Rattle.layout.specs.Layout.{validLayout}
 use Rattle.card_table.specs.declared.facts.Facts.{Facts}
 use Rattle.card_table.specs.Edition.{editionKnown, hasAccess, leastEdition}
-use Rattle.card_table.specs.Facts.{largestSide, sideKnown, closed, accessKnown, factsValid, withAccess}
+use Rattle.card_table.specs.Facts.{largestSide, sideKnown, closed, accessKnown, factsValid, oddWidth, withAccess}
 use Rattle.card_table.specs.Table.{cardSize}
 use Rattle.refusal.specs.declared.Written.the-variants.{Done, Refused}
 use Rattle.card_writer.specs.Writing.{unwritable, validAt, writeAnswer}
@@ -64,6 +64,7 @@ valid-with f a v k = ap₂ _&&_ (and-left (body f) (accessKnown (f .access)) v) 
 pub record At (e : ℕ) (f : Facts) : Type 0 where
   pub edition : editionKnown e ≡ true
   pub facts : factsValid f ≡ true
+  pub even : oddWidth f ≡ false
   pub writable : unwritable e f ≡ false
   -- the edition reads the facts
   pub readable : ltb e (leastEdition f) ≡ false
@@ -73,13 +74,20 @@ pub record At (e : ℕ) (f : Facts) : Type 0 where
 pub at : (e : ℕ) (f : Facts) → validAt e f ≡ true → At e f
 unfolding validAt unwritable
 at e f v =
-    let h = and3 (editionKnown e) (factsValid f) (not (unwritable e f)) v in
+    let h = and3 (editionKnown e && factsValid f) (not (oddWidth f)) (not (unwritable e f)) v in
     let u = not-true (unwritable e f) (h .2) in
     let t = ltb e (leastEdition f) in
     let s = not (hasAccess e) && not (eqb (f .access) closed) in
-    record { edition = h .0; facts = h .1; writable = u; readable = or-left t s u; silent = or-right t s u }
+    record {
+      edition = and-left (editionKnown e) (factsValid f) (h .0);
+      facts = and-right (editionKnown e) (factsValid f) (h .0);
+      even = not-true (oddWidth f) (h .1);
+      writable = u;
+      readable = or-left t s u;
+      silent = or-right t s u;
+    }
 
 -- only row 13 is left
 pub write-valid : (e : ℕ) (f : Facts) (bytes : ℕ) → At e f → writeAnswer e f bytes ≡ cond (not (eqb bytes cardSize)) (Refused 13) Done
 unfolding writeAnswer
-write-valid e f bytes v = pass _ (ap not (v .edition)) (pass _ (ap not (v .facts)) (pass _ (v .writable) refl))
+write-valid e f bytes v = pass _ (ap not (v .edition)) (pass _ (ap not (v .facts)) (pass _ (v .even) (pass _ (v .writable) refl)))

@@ -11,7 +11,7 @@ use Rattle.lists.proofs.Tests.{pass, stop}
 use Rattle.lists.proofs.Bytes.{little-bytesOf, number-is}
 use Rattle.card_table.specs.declared.facts.Facts.{Facts}
 use Rattle.card_table.specs.Edition.{editionKnown, hasAccess, leastEdition}
-use Rattle.card_table.specs.Facts.{closed, accessKnown, withAccess}
+use Rattle.card_table.specs.Facts.{closed, accessKnown, oddWidth, withAccess}
 use Rattle.card_table.specs.Table.{cardSize, cardBytes}
 use Rattle.card_table.proofs.Table.{length-card, least-with, least-some}
 use Rattle.card_reader.specs.declared.CardReading.the-variants.{Shown}
@@ -81,10 +81,13 @@ module _ (e e′ : ℕ) (f : Facts) (v : At e f) where
       let l = leastEdition f in
       let s = eq-eqb l (leastEdition seen) (sym (least-with f (cond (hasAccess e′) (f .access) closed))) in
       let z = valid-with f (cond (hasAccess e′) (f .access) closed) (v .facts) (access-fits (f .access) (hasAccess e′) (sizes f (v .facts) .access)) in
-      λ i. s i && le-leb l e (ltb-false e l (v .readable)) i && z i && true && true
+      λ i. s i && le-leb l e (ltb-false e l (v .readable)) i && z i && true
 
   front-is : frontRight (cardBytes e f) (factsIn (cardBytes e f) e′) ≡ true
   front-is = ap (frontRight (cardBytes e f)) facts-is ∙ front-seen
+
+  even-is : oddWidth (factsIn (cardBytes e f) e′) ≡ false
+  even-is = ap oddWidth facts-is ∙ v .even
 
   access-is : accessUnknown e (f .access) e′ ≡ false
   unfolding accessUnknown
@@ -103,7 +106,7 @@ module _ (e e′ : ℕ) (f : Facts) (v : At e f) where
   -- no row applies
   read-shown : editionKnown e′ ≡ true → ltb e′ (leastEdition f) ≡ false → readCard (cardBytes e f) e′ ≡ Shown seen
   unfolding cardBytes bytesOf
-  read-shown k h = sym (shown (cardBytes e f) e′ long-is k (least-some f) h front-is access-is rest-right) ∙ ap Shown facts-is
+  read-shown k h = sym (shown (cardBytes e f) e′ long-is k (least-some f) h front-is even-is access-is rest-right) ∙ ap Shown facts-is
 
   by-rows : (k h : Bool) → editionKnown e′ ≡ k → ltb e′ (leastEdition f) ≡ h → readCard (cardBytes e f) e′ ≡ shows f e′
   unfolding shows cardBytes

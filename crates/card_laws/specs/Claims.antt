@@ -1,16 +1,16 @@
 -- What is claimed of cards, of the definitions that the contracts of `card_reader::read`, `card_writer::write` and `card::rewrite` cite. proofs/Claims.antt proves each. Assumes nothing.
 use Prim.Native.Nat.{ℕ, _≤_, _<_}
-use mathlib.Core.Bool.{true, not, cond, _&&_}
+use mathlib.Core.Bool.{true, false, not, cond, _&&_}
 use mathlib.Core.Path.{_≡_}
 use mathlib.Core.Logic.{_⊎_}
 use mathlib.Core.List.{List, _++_}
 use lib.Dec.{eqb, ltb}
 use lib.ListN.{length, getD, take}
 use Rattle.lists.specs.Bytes.{areBytes}
-use Rattle.refusal.specs.Refusal.{unknownEdition, laterEdition, wrongLineOrOutput}
+use Rattle.refusal.specs.Refusal.{unknownEdition, laterEdition, wrongLineOrOutput, oddCount}
 use Rattle.card_table.specs.declared.facts.Facts.{Facts}
 use Rattle.card_table.specs.Edition.{editionKnown, hasAccess, leastEdition}
-use Rattle.card_table.specs.Facts.{closed, accessKnown, factsValid, withAccess}
+use Rattle.card_table.specs.Facts.{closed, accessKnown, factsValid, oddWidth, withAccess}
 use Rattle.card_table.specs.Table.{cardSize, cardBytes}
 use Rattle.card_reader.specs.declared.CardReading.{CardReading}
 use Rattle.card_reader.specs.declared.CardReading.the-variants.{Shown, Refused as NotShown}
@@ -68,8 +68,17 @@ ShowsNoOther = (b : List ℕ) (e : ℕ) (f : Facts) → areBytes b ≡ true → 
 -- a card that was written later, for every pair of a writer and an earlier reader, is shown if bytes 0 to 23 are the table's, whatever the others are: byte 24 is its access if the reader has that number, and else it is closed
 abbrev pub ShowsLaterCards : Type 0
 ShowsLaterCards =
-    (w e : ℕ) (f : Facts) (others : List ℕ) → factsValid f ≡ true → length others ≡ 8 → editionKnown e ≡ true → leastEdition f ≤ e → e < w
+    (w e : ℕ) (f : Facts) (others : List ℕ) → factsValid f ≡ true → oddWidth f ≡ false → length others ≡ 8 → editionKnown e ≡ true → leastEdition f ≤ e → e < w
     → readCard (take 24 (cardBytes w f) ++ others) e ≡ Shown (withAccess f (cond (hasAccess e && accessKnown (getD others 0 0)) (getD others 0 0) closed))
+
+-- an odd width of groups is refused by 16 (A6): in writing before 11, and in reading before all that bytes 24 to 31 could give, whatever these are
+abbrev pub WritesNoOddWidth : Type 0
+WritesNoOddWidth = (e : ℕ) (f : Facts) (bytes : ℕ) → editionKnown e ≡ true → factsValid f ≡ true → oddWidth f ≡ true → writeAnswer e f bytes ≡ Refused oddCount
+
+abbrev pub ShowsNoOddWidth : Type 0
+ShowsNoOddWidth =
+    (w e : ℕ) (f : Facts) (others : List ℕ) → factsValid f ≡ true → oddWidth f ≡ true → length others ≡ 8 → editionKnown e ≡ true → leastEdition f ≤ e → leastEdition f ≤ w
+    → readCard (take 24 (cardBytes w f) ++ others) e ≡ NotShown oddCount
 
 -- ---- a refusal leaves the output as it was
 

@@ -7,6 +7,7 @@ use lib.Dec.{eqb, ltb}
 use lib.ListN.{length, getD}
 use Rattle.lists.proofs.Tests.{pass, stop}
 use Rattle.card_table.specs.Edition.{editionKnown}
+use Rattle.card_table.specs.Facts.{oddWidth}
 use Rattle.card_table.specs.Table.{cardSize}
 use Rattle.card_reader.specs.declared.CardReading.the-variants.{Shown, Refused}
 use Rattle.card_table.specs.Access.{accessUnknown}
@@ -39,16 +40,21 @@ module _ (b : List ℕ) (e : ℕ) where
           refused-front t = sym (pass _ (ap not l) (pass _ (ap not k) (pass _ z (pass _ h (stop _ (ap not t))))))
 
           module _ (f : frontRight b (factsIn b e) ≡ true) where
-            pub refused-10 : accessUnknown (writerOf b) (getD b 24 0) e ≡ true → Refused 10 ≡ readCard b e
+            pub refused-16 : oddWidth (factsIn b e) ≡ true → Refused 16 ≡ readCard b e
             unfolding readCard
-            refused-10 t = sym (pass _ (ap not l) (pass _ (ap not k) (pass _ z (pass _ h (pass _ (ap not f) (stop _ t))))))
+            refused-16 t = sym (pass _ (ap not l) (pass _ (ap not k) (pass _ z (pass _ h (pass _ (ap not f) (stop _ t))))))
 
-            module _ (a : accessUnknown (writerOf b) (getD b 24 0) e ≡ false) where
-              -- bytes 24 to 31
-              pub refused-end : endWrong b e ≡ true → Refused 9 ≡ readCard b e
+            module _ (o : oddWidth (factsIn b e) ≡ false) where
+              pub refused-10 : accessUnknown (writerOf b) (getD b 24 0) e ≡ true → Refused 10 ≡ readCard b e
               unfolding readCard
-              refused-end t = sym (pass _ (ap not l) (pass _ (ap not k) (pass _ z (pass _ h (pass _ (ap not f) (pass _ a (stop _ t)))))))
+              refused-10 t = sym (pass _ (ap not l) (pass _ (ap not k) (pass _ z (pass _ h (pass _ (ap not f) (pass _ o (stop _ t)))))))
 
-              pub shown : endWrong b e ≡ false → Shown (factsIn b e) ≡ readCard b e
-              unfolding readCard
-              shown t = sym (pass _ (ap not l) (pass _ (ap not k) (pass _ z (pass _ h (pass _ (ap not f) (pass _ a (pass _ t refl)))))))
+              module _ (a : accessUnknown (writerOf b) (getD b 24 0) e ≡ false) where
+                -- bytes 24 to 31
+                pub refused-end : endWrong b e ≡ true → Refused 9 ≡ readCard b e
+                unfolding readCard
+                refused-end t = sym (pass _ (ap not l) (pass _ (ap not k) (pass _ z (pass _ h (pass _ (ap not f) (pass _ o (pass _ a (stop _ t))))))))
+
+                pub shown : endWrong b e ≡ false → Shown (factsIn b e) ≡ readCard b e
+                unfolding readCard
+                shown t = sym (pass _ (ap not l) (pass _ (ap not k) (pass _ z (pass _ h (pass _ (ap not f) (pass _ o (pass _ a (pass _ t refl))))))))

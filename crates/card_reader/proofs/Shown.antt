@@ -10,6 +10,7 @@ use lib.ListN.{length, getD}
 use Rattle.lists.specs.Bytes.{numberAt}
 use Rattle.card_table.specs.declared.facts.Facts.{Facts}
 use Rattle.card_table.specs.Edition.{editionKnown}
+use Rattle.card_table.specs.Facts.{oddWidth}
 use Rattle.card_table.specs.Table.{cardSize}
 use Rattle.card_reader.specs.declared.CardReading.{CardReading}
 use Rattle.card_reader.specs.declared.CardReading.the-variants.{Shown, Refused}
@@ -29,6 +30,7 @@ pub record Accepted (b : List ℕ) (e : ℕ) (f : Facts) : Type 0 where
   pub edition : editionKnown e ≡ true
   pub readable : ltb e (getD b 0 0) ≡ false
   pub front : frontRight b (factsIn b e) ≡ true
+  pub even : oddWidth (factsIn b e) ≡ false
   pub access : accessUnknown (writerOf b) (getD b 24 0) e ≡ false
   pub end : endWrong b e ≡ false
   pub is : factsIn b e ≡ f
@@ -36,8 +38,9 @@ pub record Accepted (b : List ℕ) (e : ℕ) (f : Facts) : Type 0 where
 pub accepted : (b : List ℕ) (e : ℕ) (f : Facts) → readCard b e ≡ Shown f → Accepted b e f
 unfolding readCard
 accepted b e f h =
-    let r₇ : CardReading = cond (endWrong b e) (Refused 9) (Shown (factsIn b e)) in
-    let r₆ : CardReading = cond (accessUnknown (writerOf b) (getD b 24 0) e) (Refused 10) r₇ in
+    let r₈ : CardReading = cond (endWrong b e) (Refused 9) (Shown (factsIn b e)) in
+    let r₇ : CardReading = cond (accessUnknown (writerOf b) (getD b 24 0) e) (Refused 10) r₈ in
+    let r₆ : CardReading = cond (oddWidth (factsIn b e)) (Refused 16) r₇ in
     let r₅ : CardReading = cond (not (frontRight b (factsIn b e))) (Refused 9) r₆ in
     let r₄ : CardReading = cond (ltb e (getD b 0 0)) (Refused 8) r₅ in
     let r₃ : CardReading = cond (eqb (getD b 0 0) 0) (Refused 9) r₄ in
@@ -47,16 +50,18 @@ accepted b e f h =
     let h₄ = passed (eqb (getD b 0 0) 0) 9 r₄ f (h₃ .1) in
     let h₅ = passed (ltb e (getD b 0 0)) 8 r₅ f (h₄ .1) in
     let h₆ = passed (not (frontRight b (factsIn b e))) 9 r₆ f (h₅ .1) in
-    let h₇ = passed (accessUnknown (writerOf b) (getD b 24 0) e) 10 r₇ f (h₆ .1) in
-    let h₈ = passed (endWrong b e) 9 (Shown (factsIn b e)) f (h₇ .1) in
+    let h₇ = passed (oddWidth (factsIn b e)) 16 r₇ f (h₆ .1) in
+    let h₈ = passed (accessUnknown (writerOf b) (getD b 24 0) e) 10 r₈ f (h₇ .1) in
+    let h₉ = passed (endWrong b e) 9 (Shown (factsIn b e)) f (h₈ .1) in
     record {
       size = eqb-true (length b) cardSize (not-false (eqb (length b) cardSize) (h₂ .0));
       edition = not-false (editionKnown e) (h₃ .0);
       readable = h₅ .0;
       front = not-false (frontRight b (factsIn b e)) (h₆ .0);
-      access = h₇ .0;
-      end = h₈ .0;
-      is = same-facts (factsIn b e) f (h₈ .1);
+      even = h₇ .0;
+      access = h₈ .0;
+      end = h₉ .0;
+      is = same-facts (factsIn b e) f (h₉ .1);
     }
 
 -- an item that is shown is the number in bytes 16 to 23 of 32

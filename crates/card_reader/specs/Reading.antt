@@ -1,4 +1,4 @@
--- Document 01, "Card" and "Numbers on the refusal slip": what reading a card at an edition answers. Assumes nothing.
+-- Document 01, "Card" and "Numbers on the refusal slip", with request A6: what reading a card at an edition answers. Assumes nothing.
 use Prim.Native.Nat.{ℕ}
 use mathlib.Core.Bool.{Bool, false, not, cond, _&&_, _||_}
 use mathlib.Core.List.{List}
@@ -6,12 +6,12 @@ use lib.Dec.{eqb, leb, ltb}
 use lib.ListN.{length, getD}
 use Rattle.lists.specs.Bytes.{numberAt}
 use Rattle.layout.specs.declared.Layout.{Layout}
-use Rattle.refusal.specs.Refusal.{wrongLength, unknownEdition, laterEdition, outside, unknownAccess}
+use Rattle.refusal.specs.Refusal.{wrongLength, unknownEdition, laterEdition, outside, unknownAccess, oddCount}
 use Rattle.card_table.specs.declared.facts.Facts.{Facts}
 use Rattle.card_reader.specs.declared.CardReading.{CardReading}
 use Rattle.card_reader.specs.declared.CardReading.the-variants.{Shown, Refused}
 use Rattle.card_table.specs.Edition.{editionKnown, hasAccess, leastEdition}
-use Rattle.card_table.specs.Facts.{factsValid}
+use Rattle.card_table.specs.Facts.{factsValid, oddWidth}
 use Rattle.card_table.specs.Access.{accessOf, tableHolds, accessUnknown}
 use Rattle.card_table.specs.Table.{cardSize}
 
@@ -33,6 +33,7 @@ layoutIn b =
       offset0 = getD b 8 0;
       offset1 = getD b 9 0;
       offset2 = getD b 10 0;
+      sampling = getD b 7 0;
     }
 
 -- all facts, as an edition shows them
@@ -48,13 +49,12 @@ factsIn b e =
 
 -- ---- which bytes are right
 
--- bytes 0 to 23, which every edition reads, are as the table has them, f being the facts that they hold (the access in f is always one of the three)
+-- bytes 0 to 23, which every edition reads, are as the table has them, but for an odd width, f being the facts that they hold (the access in f is always one of the three)
 unfoldable pub frontRight : List ℕ → Facts → Bool
 frontRight b f =
     eqb (getD b 0 0) (leastEdition f)
     && leb (getD b 0 0) (writerOf b)
     && factsValid f
-    && eqb (getD b 7 0) 0
     && eqb (getD b 11 0) 0
 
 -- row 9 for bytes 24 to 31: not all of those are zero that must be. Written at 1, that is all of them, whoever reads; where the table holds, bytes 25 to 31; of a card written later than it is read, none
@@ -65,7 +65,7 @@ endWrong b e =
 
 -- ---- the answer
 
--- in the order 1, 7, 9 if byte 0 is 0, 8, 9 for bytes 1 to 23 and byte 0 too high or low for the layout, 10, 9 for bytes 24 to 31
+-- in the order 1, 7, 9 if byte 0 is 0, 8, 9 for bytes 1 to 23 and byte 0 too high or low for the layout, 16 (A6), 10, 9 for bytes 24 to 31
 unfoldable pub readCard : List ℕ → ℕ → CardReading
 readCard b e =
     cond (not (eqb (length b) cardSize)) (Refused wrongLength)
@@ -73,9 +73,10 @@ readCard b e =
     (cond (eqb (getD b 0 0) 0) (Refused outside)
     (cond (ltb e (getD b 0 0)) (Refused laterEdition)
     (cond (not (frontRight b (factsIn b e))) (Refused outside)
+    (cond (oddWidth (factsIn b e)) (Refused oddCount)
     (cond (accessUnknown (writerOf b) (getD b 24 0) e) (Refused unknownAccess)
     (cond (endWrong b e) (Refused outside)
-    (Shown (factsIn b e))))))))
+    (Shown (factsIn b e)))))))))
 
 -- a reading shows the item; one that is refused shows none
 abbrev pub showsItem : ℕ → CardReading → Bool

@@ -24,6 +24,7 @@ fn layout_in(bytes: &[u8]) -> Layout
         offset0: bytes[8],
         offset1: bytes[9],
         offset2: bytes[10],
+        sampling: bytes[7],
     }
 }
 
@@ -46,14 +47,10 @@ pub(crate) fn facts_in(bytes: &[u8], edition: u8) -> Facts
     }
 }
 
-// Whether bytes 0 to 23 are as the table has them, where they hold these facts.
+// Whether bytes 0 to 23 are as the table has them, but for an odd width, where they hold these facts.
 pub(crate) fn front_right(bytes: &[u8], facts: Facts) -> bool
     requires { ⌜ length (now bytes) ≡ cardSize ⌝ }
     ensures { λ r. ⌜ r ≡ frontRight (now (bytes .entry)) facts ⌝ }
 {
-    (bytes[0] == least(facts))
-        & (bytes[0] <= bytes[1])
-        & facts.valid()
-        & (bytes[7] == 0)
-        & (bytes[11] == 0)
+    (bytes[0] == least(facts)) & (bytes[0] <= bytes[1]) & facts.valid() & (bytes[11] == 0)
 }

@@ -17,7 +17,7 @@ pub enum CardReading {
 }
 
 // What a card shows at an edition. Refused: 1, 7, 9 where byte 0 is 0, 8, 9 for
-// bytes 1 to 23 and a byte 0 that is not the layout's, 10, 9 for bytes 24 to 31.
+// bytes 1 to 23 and a byte 0 that is not the layout's, 16, 10, 9 for bytes 24 to 31.
 pub fn read(bytes: &[u8], edition: u8) -> CardReading
     ensures answer { λ r. ⌜ r ≡ readCard (now (bytes .entry)) edition ⌝ }
 {
@@ -37,10 +37,14 @@ pub fn read(bytes: &[u8], edition: u8) -> CardReading
     if !front::front_right(bytes, facts) {
         return CardReading::Refused(refusal::OUTSIDE);
     }
-    // Both tests come before either answer. With a return between them the compiler takes the second test to be rare, does
+    // All three tests come before any answer. With a return between them the compiler takes a later test to be rare, does
     // not inline it, and `read` takes twice as long.
+    let odd = facts.odd_width();
     let unknown = access::unknown(bytes[1], bytes[24], edition);
     let wrong = end::end_wrong(bytes, edition);
+    if odd {
+        return CardReading::Refused(refusal::ODD_COUNT);
+    }
     if unknown {
         return CardReading::Refused(refusal::UNKNOWN_ACCESS);
     }

@@ -5,6 +5,7 @@ use Prim.Native.Nat.{ℕ}
 use lib.Dec.{eqb}
 use lib.ListN.{length}
 use Rattle.lists.specs.Bytes.{bytesOf}
+use Rattle.layout.specs.Layout.{grouped}
 use Rattle.card_table.specs.declared.facts.Facts.{Facts}
 use Rattle.card_table.specs.Edition.{leastEdition}
 use Rattle.card_table.specs.Facts.{withAccess}
@@ -22,9 +23,10 @@ least-with f access = refl
 -- which is never 0
 pub least-some : (f : Facts) → eqb (leastEdition f) 0 ≡ false
 unfolding leastEdition
-least-some f = go (eqb (f .layout .range) 3) (eqb (f .layout .depth) 12)
+least-some f = go (grouped (f .layout)) (eqb (f .layout .range) 3) (eqb (f .layout .depth) 12)
   where
-    go : (t u : Bool) → eqb (cond t 3 (cond u 2 1)) 0 ≡ false
-    go true u = refl
-    go false true = refl
-    go false false = refl
+    go : (g t u : Bool) → eqb (cond g 4 (cond t 3 (cond u 2 1))) 0 ≡ false
+    go true t u = refl
+    go false true u = refl
+    go false false true = refl
+    go false false false = refl

@@ -9,7 +9,7 @@ use Rattle.card_table.specs.Facts.{closed, accessKnown}
 unfoldable pub accessOf : ℕ → ℕ → ℕ → ℕ
 accessOf writer access e = cond (hasAccess writer && hasAccess e && accessKnown access) access closed
 
--- the table holds for bytes 24 to 31: written at 2 or later, and not later than it is read (written at 2 and read at 2 or 3, or written at 3 and read at 3)
+-- the table holds for bytes 24 to 31: written at 2 or later, and not later than it is read (written at 2 and read at 2, 3 or 4, and so on)
 abbrev pub tableHolds : ℕ → ℕ → Bool
 tableHolds writer e = hasAccess writer && leb writer e
 

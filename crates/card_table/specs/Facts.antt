@@ -1,8 +1,8 @@
--- Document 01, "Card" and "The book of one card": the facts that a card holds, a layout, a size, an item and an access. Assumes nothing.
+-- Document 01, "Card" and "The book of one card", with request A6: the facts that a card holds, a layout, a size, an item and an access. Assumes nothing.
 use Prim.Native.Nat.{ℕ, _^_}
-use mathlib.Core.Bool.{Bool, _&&_}
+use mathlib.Core.Bool.{Bool, not, _&&_}
 use lib.Dec.{leb, ltb}
-use Rattle.layout.specs.Layout.{validLayout}
+use Rattle.layout.specs.Layout.{wholeGroups, validLayout}
 use Rattle.card_table.specs.declared.facts.Facts.{Facts}
 
 -- the largest width, and the largest height
@@ -35,6 +35,10 @@ factsValid f =
     && leb 1 (f .item)
     && ltb (f .item) (2 ^ 64)
     && accessKnown (f .access)
+
+-- row 16: the width is odd, where two points of a line make a group (A6)
+abbrev pub oddWidth : Facts → Bool
+oddWidth f = not (wholeGroups (f .layout) (f .width))
 
 -- the same facts with another access
 abbrev pub withAccess : Facts → ℕ → Facts

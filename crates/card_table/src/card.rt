@@ -44,7 +44,7 @@ impl Card {
             layout.range,
             layout.depth,
             layout.bytes,
-            0,
+            layout.sampling,
             layout.offset0,
             layout.offset1,
             layout.offset2,

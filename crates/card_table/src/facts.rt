@@ -1,6 +1,6 @@
 // The facts that a card holds.
 ghost use mathlib.Core.Path.{_≡_};
-ghost use Rattle.card_table.specs.Facts.{sideKnown, factsValid};
+ghost use Rattle.card_table.specs.Facts.{sideKnown, factsValid, oddWidth};
 use crate::access;
 use crate::card::Card;
 use layout::Layout;
@@ -34,5 +34,13 @@ impl Facts {
             & side_known(self.height)
             & (1 <= item)
             & (access <= access::OPEN)
+    }
+
+    // Whether the width is odd where two points of a line make a group.
+    pub fn odd_width(self) -> bool
+        ensures { λ r. ⌜ r ≡ oddWidth self ⌝ }
+    {
+        let layout = self.layout;
+        layout.grouped() & (self.width % 2 == 1)
     }
 }

@@ -9,7 +9,7 @@ use Rattle.lists.specs.Lists.{newOrKept}
 use Rattle.lists.proofs.Tests.{pass, stop}
 use Rattle.card_table.specs.declared.facts.Facts.{Facts}
 use Rattle.card_table.specs.Edition.{editionKnown}
-use Rattle.card_table.specs.Facts.{factsValid}
+use Rattle.card_table.specs.Facts.{factsValid, oddWidth}
 use Rattle.card_table.specs.Table.{cardSize, cardBytes}
 use Rattle.refusal.specs.declared.Written.{Written}
 use Rattle.refusal.specs.declared.Written.the-variants.{Done, Refused}
@@ -27,18 +27,23 @@ module _ (e : ℕ) (f : Facts) (out : List ℕ) where
     refused-9 t = sym (pass _ (ap not k) (stop _ (ap not t)))
 
     module _ (v : factsValid f ≡ true) where
-      pub refused-11 : unwritable e f ≡ true → Refused 11 ≡ writeAnswer e f (length out)
+      pub refused-16 : oddWidth f ≡ true → Refused 16 ≡ writeAnswer e f (length out)
       unfolding writeAnswer
-      refused-11 t = sym (pass _ (ap not k) (pass _ (ap not v) (stop _ t)))
+      refused-16 t = sym (pass _ (ap not k) (pass _ (ap not v) (stop _ t)))
 
-      module _ (u : unwritable e f ≡ false) where
-        pub refused-13 : eqb (length out) cardSize ≡ false → Refused 13 ≡ writeAnswer e f (length out)
+      module _ (o : oddWidth f ≡ false) where
+        pub refused-11 : unwritable e f ≡ true → Refused 11 ≡ writeAnswer e f (length out)
         unfolding writeAnswer
-        refused-13 t = sym (pass _ (ap not k) (pass _ (ap not v) (pass _ u (stop _ (ap not t)))))
+        refused-11 t = sym (pass _ (ap not k) (pass _ (ap not v) (pass _ o (stop _ t))))
 
-        pub done : eqb (length out) cardSize ≡ true → Done ≡ writeAnswer e f (length out)
-        unfolding writeAnswer
-        done t = sym (pass _ (ap not k) (pass _ (ap not v) (pass _ u (pass _ (ap not t) refl))))
+        module _ (u : unwritable e f ≡ false) where
+          pub refused-13 : eqb (length out) cardSize ≡ false → Refused 13 ≡ writeAnswer e f (length out)
+          unfolding writeAnswer
+          refused-13 t = sym (pass _ (ap not k) (pass _ (ap not v) (pass _ o (pass _ u (stop _ (ap not t))))))
+
+          pub done : eqb (length out) cardSize ≡ true → Done ≡ writeAnswer e f (length out)
+          unfolding writeAnswer
+          done t = sym (pass _ (ap not k) (pass _ (ap not v) (pass _ o (pass _ u (pass _ (ap not t) refl)))))
 
   -- what the output then holds
   pub unchanged : (n : ℕ) → Refused n ≡ writeAnswer e f (length out) → out ≡ writeOutput e f out

@@ -17,7 +17,7 @@ fn unwritable(edition: u8, facts: Facts) -> bool
         | (!edition::has_access(edition) & !(access == access::CLOSED))
 }
 
-// Writes the card of the facts at an edition. Refused: 7, 9, 11, 13; `out` is then as it was.
+// Writes the card of the facts at an edition. Refused: 7, 9, 16, 11, 13; `out` is then as it was.
 pub fn write(edition: u8, facts: Facts, out: &mut [u8]) -> Written
     ensures answer { λ r. ⌜ r ≡ writeAnswer edition facts (length (now (out .entry))) ⌝ }
     ensures memory { λ r. ⌜ now (out .exit) ≡ writeOutput edition facts (now (out .entry)) ⌝ }
@@ -25,11 +25,15 @@ pub fn write(edition: u8, facts: Facts, out: &mut [u8]) -> Written
     if !edition::known(edition) {
         return Written::Refused(refusal::UNKNOWN_EDITION);
     }
-    // Both tests come before either answer, so that the compiler inlines both.
+    // All three tests come before any answer, so that the compiler inlines all.
     let valid = facts.valid();
+    let odd = facts.odd_width();
     let late = unwritable(edition, facts);
     if !valid {
         return Written::Refused(refusal::OUTSIDE);
+    }
+    if odd {
+        return Written::Refused(refusal::ODD_COUNT);
     }
     if late {
         return Written::Refused(refusal::UNWRITABLE);

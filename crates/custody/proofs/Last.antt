@@ -6,7 +6,7 @@ use lib.Ieee.{Float}
 use lib.ListN.{length}
 use Rattle.line.specs.declared.LineAnswer.{LineAnswer}
 use Rattle.line.specs.declared.LineAnswer.the-variants.{Refused as LineRefused}
-use Rattle.decoding.specs.Decode.{decodeAnswer, decodeOutput}
+use Rattle.line_values.specs.Decode.{decodeAnswer, decodeOutput}
 use Rattle.card_table.specs.declared.facts.Facts.{Facts}
 use Rattle.card_reader.specs.declared.CardReading.{CardReading}
 use Rattle.card_reader.specs.declared.CardReading.the-variants.{Shown, Refused as NotShown}

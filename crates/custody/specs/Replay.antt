@@ -47,7 +47,7 @@ askedBy g =
 
 -- ---- whether it begins
 
--- as the first writing answers, 7, 9 or 11; then 13 where the lists do not fit together
+-- as the first writing answers, 7, 9, 16 or 11; then 13 where the lists do not fit together
 abbrev pub thenFitting : Written → Bool → Written
 thenFitting (Refused k) fits = Refused k
 thenFitting Done fits = cond (not fits) (Refused wrongLineOrOutput) Done

@@ -45,8 +45,8 @@ fn read_last(card: &[u8], last: u8, packed: &[u8], values: &mut [f32]) -> Replay
 
 // Writes a card from the facts at the first edition; rewrites it at each edition, into an output of so many bytes, one after
 // the other in `outputs`; reads it at the last edition; and decodes the line by the layout that is shown. Afterwards `card` is
-// the card last written, and `answers` holds 0 or a refusal's number for each rewrite. Refused, with nothing changed: 7, 9 or 11
-// as the first writing is; then 13, where the slices do not fit together.
+// the card last written, and `answers` holds 0 or a refusal's number for each rewrite. Refused, with nothing changed: 7, 9,
+// 16 or 11 as the first writing is; then 13, where the slices do not fit together.
 pub fn replay(
     first: u8,
     facts: Facts,

@@ -7,12 +7,12 @@ use borrow.Author.Tests.{eq-eqb}
 use lib.Dec.{eqb, leb, ltb}
 use lib.Ieee.{Float}
 use lib.ListN.{length}
-use Rattle.lists.proofs.Tests.{and3, pass, stop}
+use Rattle.lists.proofs.Tests.{and-right, and3, pass, stop}
 use Rattle.layout.specs.Layout.{validLayout}
 use Rattle.line.specs.Answer.{unpackAnswer}
 use Rattle.card_table.specs.declared.facts.Facts.{Facts}
 use Rattle.card_table.specs.Edition.{editionKnown, leastEdition}
-use Rattle.card_table.specs.Facts.{sideKnown, accessKnown, factsValid, withAccess}
+use Rattle.card_table.specs.Facts.{sideKnown, accessKnown, factsValid, oddWidth, withAccess}
 use Rattle.card_table.specs.Table.{cardSize, cardBytes}
 use Rattle.card_table.proofs.Table.{least-with}
 use Rattle.card_reader.specs.declared.CardReading.{CardReading}
@@ -137,7 +137,7 @@ module _ (e : ℕ) (f : Facts) (a : ℕ) (v : validAt e (withAccess f a) ≡ tru
 -- what is read of a card that is valid at an edition, and decoded by it
 pub valid-facts : (e : ℕ) (f : Facts) → validAt e f ≡ true → factsValid f ≡ true
 unfolding validAt
-valid-facts e f v = and3 (editionKnown e) (factsValid f) (not (unwritable e f)) v .1
+valid-facts e f v = and-right (editionKnown e) (factsValid f) (and3 (editionKnown e && factsValid f) (not (oddWidth f)) (not (unwritable e f)) v .0)
 
 end-is : (r : CardReading) (packed : List ℕ) (values : List Float) → ((g : Facts) → r ≡ Shown g → factsValid g ≡ true) → callsEnd r packed values ≡ bookEnd r packed values
 end-is (NotShown k) packed values v = refl

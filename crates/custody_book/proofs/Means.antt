@@ -2,8 +2,8 @@
 use mathlib.Core.Path.{_≡_, refl, sym, ap, ap₂, _∙_}
 use mathlib.Core.Bool.{Bool, true, false, not, cond, _&&_, _||_, and-false}
 use mathlib.Core.List.{List, [], _∷_}
-use Prim.Native.Nat.{ℕ, _*_, _/_, _%_}
-use native.Mathlib.Nat.{div-add-mod}
+use Prim.Native.Nat.{ℕ, _*_, _/_, _%_, _<_}
+use native.Mathlib.Nat.{div-add-mod, mul-comm, mul-div-cancel, mul-mod-left}
 use native.Mathlib.Omega.{arith}
 use borrow.Author.Tests.{eqb-true, eq-eqb}
 use lib.Dec.{eqb, leb, ltb}
@@ -12,10 +12,11 @@ use lib.ListN.{length, getD}
 use Rattle.lists.specs.Lists.{newOrKept}
 use Rattle.lists.proofs.Tests.{and-left}
 use Rattle.layout.specs.declared.Layout.{Layout}
-use Rattle.layout.specs.Layout.{kindOf, validLayout}
+use Rattle.layout.specs.Layout.{kindOf, grouped, pointsEach, wholeGroups, validLayout}
 use Rattle.quantization.specs.Answer.{named}
 use Rattle.line.specs.declared.LineAnswer.the-variants.{Points, Refused as LineRefused}
-use Rattle.decoding.specs.Decode.{valuesOf}
+use Rattle.line.specs.Line.{pointsIn, bytesFor}
+use Rattle.line_values.specs.Decode.{valuesOf}
 use Rattle.decoding_laws.proofs.Claims.{decodes-each-code}
 use Rattle.card_table.specs.declared.facts.Facts.{Facts}
 use Rattle.card_table.specs.Edition.{editionKnown, hasAccess, leastEdition}
@@ -28,7 +29,7 @@ use Rattle.refusal.specs.declared.Written.{Written}
 use Rattle.refusal.specs.declared.Written.the-variants.{Done, Refused}
 use Rattle.refusal.specs.Written.{accepted}
 use Rattle.custody_book.specs.History.{Rewrite, Asked, Trace}
-use Rattle.custody_book.specs.Book.{Book, startOf, bookAnswer, bookAfter, captured, pointsIn, decodable, bookDecoding, bookValues, bookFrom, book}
+use Rattle.custody_book.specs.Book.{Book, startOf, bookAnswer, bookAfter, captured, pointsOf, decodable, bookDecoding, bookValues, bookFrom, book}
 use Rattle.custody_book.specs.Meaning.{readingOf, decodingOf, valuesAfter, refused, notShown, RewriteRight, EachRight, EachRight.none, EachRight.each, acceptedAt, ReadingRight, DecodingRight, Meaning}
 
 -- ---- tests
@@ -144,14 +145,23 @@ module _ (f : Facts) (last : ℕ) (packed : List ℕ) (values : List Float) wher
   values-from b [] = refl
   values-from b (r ∷ rs) = values-from (bookAfter (bookAnswer f r) f b (r .edition)) rs
 
--- a captured line is of whole points
-whole : (l : Layout) (packed : List ℕ) → captured l packed ≡ true → length packed ≡ l .bytes * pointsIn l packed
+-- a captured line is of whole points, or groups
+each-pos : (l : Layout) → 0 < pointsEach l
+each-pos l = go (grouped l)
+  where
+    go : (t : Bool) → 0 < cond t 2 1
+    go true = omega arith
+    go false = omega arith
+
+whole : (l : Layout) (packed : List ℕ) → captured l packed ≡ true → (wholeGroups l (pointsOf l packed) ≡ true) × (length packed ≡ bytesFor l (pointsOf l packed))
 whole l packed c =
     let n = length packed in
     let b = l .bytes in
-    let r = eqb-true (n % b) 0 (and-left (eqb (n % b) 0) (leb (n / b) 4096) c) in
-    let d = div-add-mod n b in
-    omega (arith, r, d)
+    let e = pointsEach l in
+    let r = eqb-true (n % b) 0 (and-left (eqb (n % b) 0) (leb (pointsIn l n) 4096) c) in
+    let turned : pointsIn l n ≡ n / b * e = mul-comm e (n / b) in
+    let back : pointsIn l n / e ≡ n / b = ap (λ (m : ℕ). m / e) turned ∙ mul-div-cancel (n / b) (each-pos l) in
+    (eq-eqb (pointsIn l n % e) 0 (ap (λ (m : ℕ). m % e) turned ∙ mul-mod-left (n / b) e), omega (arith, r, div-add-mod n b, ap (λ (m : ℕ). b * m) back))
 
 -- ---- the whole
 
@@ -198,27 +208,27 @@ module _ (a : Asked) where
       }
 
   decoded-by : (g : Facts) → readingOf s ≡ Shown g → (t : Bool) → decodable (f .layout) (a .packed) (a .values) ≡ t
-      → (decodingOf s ≡ cond (not t) (LineRefused 13) (Points (pointsIn (f .layout) (a .packed)))) × (valuesAfter s ≡ newOrKept t (valuesOf (f .layout) (a .packed)) (a .values))
+      → (decodingOf s ≡ cond (not t) (LineRefused 13) (Points (pointsOf (f .layout) (a .packed)))) × (valuesAfter s ≡ newOrKept t (valuesOf (f .layout) (a .packed)) (a .values))
   decoded-by g h t d =
       let r = h ∙ ap Shown (sym (shown-is g h)) in (
         decoding-from f (a .last) (a .packed) (a .values) (startOf (a .first) f) (a .rewrites)
             ∙ ap (λ (x : CardReading). bookDecoding x (a .packed) (a .values)) r
-            ∙ ap (λ (t : Bool). cond (not t) (LineRefused 13) (Points (pointsIn (f .layout) (a .packed)))) d,
+            ∙ ap (λ (t : Bool). cond (not t) (LineRefused 13) (Points (pointsOf (f .layout) (a .packed)))) d,
         values-from f (a .last) (a .packed) (a .values) (startOf (a .first) f) (a .rewrites)
             ∙ ap (λ (x : CardReading). bookValues x (a .packed) (a .values)) r
             ∙ ap (λ (t : Bool). newOrKept t (valuesOf (f .layout) (a .packed)) (a .values)) d,
       )
 
-  all-decoded : (g : Facts) → readingOf s ≡ Shown g → captured (f .layout) (a .packed) ≡ true → length (a .values) ≡ 3 * pointsIn (f .layout) (a .packed)
-      → (decodingOf s ≡ Points (pointsIn (f .layout) (a .packed))) × (valuesAfter s ≡ valuesOf (f .layout) (a .packed))
-  all-decoded g h c n = decoded-by g h true (ap₂ _&&_ c (eq-eqb (length (a .values)) (3 * pointsIn (f .layout) (a .packed)) n))
+  all-decoded : (g : Facts) → readingOf s ≡ Shown g → captured (f .layout) (a .packed) ≡ true → length (a .values) ≡ 3 * pointsOf (f .layout) (a .packed)
+      → (decodingOf s ≡ Points (pointsOf (f .layout) (a .packed))) × (valuesAfter s ≡ valuesOf (f .layout) (a .packed))
+  all-decoded g h c n = decoded-by g h true (ap₂ _&&_ c (eq-eqb (length (a .values)) (3 * pointsOf (f .layout) (a .packed)) n))
 
   decoding-right : validLayout (f .layout) ≡ true → DecodingRight a s
   decoding-right v =
       record {
         decoded = all-decoded;
         floats = λ g h c n b k m.
-            decodes-each-code (f .layout) (pointsIn (f .layout) (a .packed)) (a .packed) record { valid = v; bytes = b; points = whole (f .layout) (a .packed) c } .1 k m
+            decodes-each-code (f .layout) (pointsOf (f .layout) (a .packed)) (a .packed) (let w = whole (f .layout) (a .packed) c in record { valid = v; whole = w .0; bytes = b; points = w .1 }) .1 k m
             ∙ ap (λ (vs : List Float). named (kindOf (f .layout .model) (k % 3)) (getD vs k nan)) (sym (all-decoded g h c n .1));
         misfit = λ g h n. decoded-by g h false (ap (λ (t : Bool). captured (f .layout) (a .packed) && t) n ∙ and-false (captured (f .layout) (a .packed)));
       }

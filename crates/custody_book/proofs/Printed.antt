@@ -17,7 +17,7 @@ use Rattle.refusal.specs.declared.Written.{Written}
 use Rattle.card_laws.proofs.Printed.{row-7, row-8, by-edition}
 use Rattle.custody_book.specs.History.{Rewrite, Asked, Trace, History}
 use Rattle.custody_book.specs.Meaning.{readingOf, refused, notShown, EachRight, EachRight.none, EachRight.each, acceptedAt}
-use Rattle.custody_book.specs.Printed.{Wording, RewriteWorded, EachWorded, EachWorded.none as no-more, EachWorded.each as one-more, Worded, twoOrThree, words, MeansAsPrinted, oneOrTwo, firstWords, PrintedAsFirst, AccessPrinted}
+use Rattle.custody_book.specs.Printed.{Wording, RewriteWorded, EachWorded, EachWorded.none as no-more, EachWorded.each as one-more, Worded, twoToFour, words, MeansAsPrinted, oneOrTwo, laterThanTwo, firstWords, PrintedAsFirst, AccessPrinted}
 
 -- ---- one wording for another, where they say the same of every edition that is asked
 
@@ -98,35 +98,39 @@ means-as-printed a h m =
     (record {
       known = λ e q. row-7 e;
       lacking = λ e q k. row-8 e (a .facts) k;
-      keeping = λ e q k. by-edition (λ e. hasAccess e ≡ twoOrThree e) refl refl refl e k;
+      keeping = λ e q k. by-edition (λ e. hasAccess e ≡ twoToFour e) refl refl refl refl e k;
     })
     refl (all (a .rewrites))
     (record { rewrites = each-defined (a .facts) (m .rewrites); exactly = r .exactly; others = r .others; access = r .access })
 
 -- ---- the first words
 
-or-not : (t u : Bool) → not u ≡ true → t || u ≡ t
-or-not true u h = refl
-or-not false u h = not-true u h
+or-neither : (t u v : Bool) → not (u || v) ≡ true → t || u || v ≡ t
+or-neither true u v h = refl
+or-neither false u v h = not-true (u || v) h
 
--- without range 3 (r), the layout is lacking where 1 is asked about 12 bits (d)
-first-lacking : (r d one two : Bool) → not r ≡ true → one && (r || d) || two && r ≡ one && d
-first-lacking true d one two n = absurd (false≢true n)
-first-lacking false d one two n = or-not (one && d) (two && false) (ap not (and-false two))
+-- without groups (g) and range 3 (r), the layout is lacking where 1 is asked about 12 bits (d)
+first-lacking : (g r d one two three : Bool) → not r ≡ true → not g ≡ true → one && (g || r || d) || two && (g || r) || three && g ≡ one && d
+first-lacking g true d one two three n m = absurd (false≢true n)
+first-lacking true false d one two three n m = absurd (false≢true m)
+first-lacking false false d one two three n m = or-neither (one && d) (two && false) (three && false) (ap₂ (λ (x y : Bool). not (x || y)) (and-false two) (and-false three))
 
 pub printed-as-first : PrintedAsFirst
 printed-as-first a h t m =
     let f = a .facts in
+    let l = f .layout in
     let early = and3 _ _ _ t in
-    reworded (λ e. not (eqb e 3)) words firstWords a h
+    let noRange = and-left (not (eqb (l .range) 3)) (not (eqb (l .sampling) 1)) (early .0) in
+    let noGroups = and-right (not (eqb (l .range) 3)) (not (eqb (l .sampling) 1)) (early .0) in
+    reworded (λ e. not (laterThanTwo e)) words firstWords a h
     (record {
-      known = λ e q. or-not (oneOrTwo e) (eqb e 3) q;
-      lacking = λ e q k. first-lacking (eqb (f .layout .range) 3) (eqb (f .layout .depth) 12) (eqb e 1) (eqb e 2) (early .0);
-      keeping = λ e q k. or-not (eqb e 2) (eqb e 3) q;
+      known = λ e q. or-neither (oneOrTwo e) (eqb e 3) (eqb e 4) q;
+      lacking = λ e q k. first-lacking (eqb (l .sampling) 1) (eqb (l .range) 3) (eqb (l .depth) 12) (eqb e 1) (eqb e 2) (eqb e 3) noRange noGroups;
+      keeping = λ e q k. or-neither (eqb e 2) (eqb e 3) (eqb e 4) q;
     })
     (early .1) (early .2) m
 
 -- ---- the book
 
 pub access-printed : AccessPrinted
-access-printed e access = by-edition (λ e. cond (hasAccess e) access closed ≡ cond (eqb e 1) closed access) refl refl refl e
+access-printed e access = by-edition (λ e. cond (hasAccess e) access closed ≡ cond (eqb e 1) closed access) refl refl refl refl e

@@ -1,5 +1,5 @@
 -- Document 01, "The book of one card" (the book is the paper's own word): what is to be seen, worked out from the first facts and the card's table alone, with no card read. Assumes nothing.
-use Prim.Native.Nat.{ℕ, _*_, _/_}
+use Prim.Native.Nat.{ℕ, _*_}
 use mathlib.Core.Bool.{Bool, not, cond, _&&_}
 use mathlib.Core.List.{List, [], _∷_}
 use lib.Dec.{eqb, ltb}
@@ -10,8 +10,9 @@ use Rattle.layout.specs.declared.Layout.{Layout}
 use Rattle.refusal.specs.Refusal.{unknownEdition, laterEdition, wrongLineOrOutput}
 use Rattle.line.specs.declared.LineAnswer.{LineAnswer}
 use Rattle.line.specs.declared.LineAnswer.the-variants.{Points, Refused as LineRefused}
-use Rattle.line.specs.Answer.{wholePoints}
-use Rattle.decoding.specs.Decode.{valuesOf}
+use Rattle.line.specs.Line.{pointsIn}
+use Rattle.line.specs.Answer.{wholeBytes}
+use Rattle.line_values.specs.Decode.{valuesOf}
 use Rattle.card_table.specs.declared.facts.Facts.{Facts}
 use Rattle.card_table.specs.Edition.{editionKnown, hasAccess, leastEdition}
 use Rattle.card_table.specs.Facts.{closed, withAccess}
@@ -42,7 +43,7 @@ bookAnswer f r =
     (cond (not (eqb (length (r .output)) cardSize)) (Refused wrongLineOrOutput)
     Done))
 
--- the access that an edition leaves: as it is where the edition has access (at 2 or 3), and else closed (at 1)
+-- the access that an edition leaves: as it is where the edition has access (at 2 or later), and else closed (at 1)
 abbrev pub accessAt : ℕ → ℕ → ℕ
 accessAt e access = cond (hasAccess e) access closed
 
@@ -65,22 +66,22 @@ bookReading f b e =
 
 -- ---- the decoding
 
--- a captured line is of whole points of the layout, from none to 4,096
+-- a captured line is of whole points of the layout, or of whole groups (A6), from none to 4,096 points
 abbrev pub captured : Layout → List ℕ → Bool
-captured l packed = wholePoints (length packed) (l .bytes)
+captured l packed = wholeBytes l (length packed)
 
 -- its count of points
-abbrev pub pointsIn : Layout → List ℕ → ℕ
-pointsIn l packed = length packed / l .bytes
+abbrev pub pointsOf : Layout → List ℕ → ℕ
+pointsOf l packed = pointsIn l (length packed)
 
 -- such a line, and a line of three floats a point
 abbrev pub decodable : Layout → List ℕ → List Float → Bool
-decodable l packed values = captured l packed && eqb (length values) (3 * pointsIn l packed)
+decodable l packed values = captured l packed && eqb (length values) (3 * pointsOf l packed)
 
 -- decoded by the layout of an accepted reading: 13, also of a line that is not captured, or the count of points. (The paper decodes nothing after a refused reading; that its number then stands here too is our own choice)
 abbrev pub bookDecoding : CardReading → List ℕ → List Float → LineAnswer
 bookDecoding (NotShown k) packed values = LineRefused k
-bookDecoding (Shown g) packed values = cond (not (decodable (g .layout) packed values)) (LineRefused wrongLineOrOutput) (Points (pointsIn (g .layout) packed))
+bookDecoding (Shown g) packed values = cond (not (decodable (g .layout) packed values)) (LineRefused wrongLineOrOutput) (Points (pointsOf (g .layout) packed))
 
 -- the floats afterwards: what was there, or the float of each code
 abbrev pub bookValues : CardReading → List ℕ → List Float → List Float

@@ -10,7 +10,7 @@ use Rattle.custody_book.specs.History.{Asked}
 use Rattle.custody_book.specs.Book.{book}
 use Rattle.custody_book.specs.Calls.{calls}
 use Rattle.custody_book.specs.Meaning.{Meaning}
-use Rattle.custody_book.specs.Printed.{Printed, withoutThree, FirstPrinted}
+use Rattle.custody_book.specs.Printed.{Printed, withoutLater, FirstPrinted}
 
 -- facts valid at the first edition are written into an output as long as a card: from there on calls and book agree, whatever is asked
 abbrev pub Agrees : Type 0
@@ -20,10 +20,10 @@ Agrees = (a : Asked) (output : List ℕ) → validAt (a .first) (a .facts) ≡ t
 abbrev pub Means : Type 0
 Means = (a : Asked) (output : List ℕ) → validAt (a .first) (a .facts) ≡ true → length output ≡ cardSize → Meaning a (calls a output)
 
--- in the words of request A1 too, over editions 1 to 3
+-- in the words of request A6 too, over editions 1 to 4
 abbrev pub MeansPrinted : Type 0
 MeansPrinted = (a : Asked) (output : List ℕ) → validAt (a .first) (a .facts) ≡ true → length output ≡ cardSize → Printed a (calls a output)
 
--- and in the customer's first words, of editions 1 and 2, where nothing of A1 is asked
+-- and in the customer's first words, of editions 1 and 2, where nothing of A1 and A6 is asked
 abbrev pub MeansFirstPrinted : Type 0
-MeansFirstPrinted = (a : Asked) (output : List ℕ) → validAt (a .first) (a .facts) ≡ true → length output ≡ cardSize → withoutThree a ≡ true → FirstPrinted a (calls a output)
+MeansFirstPrinted = (a : Asked) (output : List ℕ) → validAt (a .first) (a .facts) ≡ true → length output ≡ cardSize → withoutLater a ≡ true → FirstPrinted a (calls a output)

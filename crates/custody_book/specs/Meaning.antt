@@ -13,7 +13,7 @@ use Rattle.quantization.specs.Answer.{named, dequantized}
 use Rattle.line.specs.declared.LineAnswer.{LineAnswer}
 use Rattle.line.specs.declared.LineAnswer.the-variants.{Points, Refused as LineRefused}
 use Rattle.line.specs.Line.{codeAt}
-use Rattle.decoding.specs.Decode.{valuesOf}
+use Rattle.line_values.specs.Decode.{valuesOf}
 use Rattle.card_table.specs.declared.facts.Facts.{Facts}
 use Rattle.card_table.specs.Edition.{editionKnown, hasAccess, leastEdition}
 use Rattle.card_table.specs.Facts.{closed}
@@ -24,7 +24,7 @@ use Rattle.refusal.specs.declared.Written.{Written}
 use Rattle.refusal.specs.declared.Written.the-variants.{Done}
 use Rattle.refusal.specs.Written.{accepted}
 use Rattle.custody_book.specs.History.{Rewrite, Asked, Trace, Trace.ended, Trace.rewritten, History}
-use Rattle.custody_book.specs.Book.{captured, pointsIn}
+use Rattle.custody_book.specs.Book.{captured, pointsOf}
 
 -- ---- what a trace ends with
 
@@ -91,14 +91,14 @@ pub record ReadingRight (a : Asked) (s : Trace) : Type 0 where
 
 pub record DecodingRight (a : Asked) (s : Trace) : Type 0 where
   -- a captured line, into three floats a point: the count of points, and the floats of its codes by the layout first given
-  pub decoded : (g : Facts) → readingOf s ≡ Shown g → captured (a .facts .layout) (a .packed) ≡ true → length (a .values) ≡ 3 * pointsIn (a .facts .layout) (a .packed)
-      → (decodingOf s ≡ Points (pointsIn (a .facts .layout) (a .packed))) × (valuesAfter s ≡ valuesOf (a .facts .layout) (a .packed))
+  pub decoded : (g : Facts) → readingOf s ≡ Shown g → captured (a .facts .layout) (a .packed) ≡ true → length (a .values) ≡ 3 * pointsOf (a .facts .layout) (a .packed)
+      → (decodingOf s ≡ Points (pointsOf (a .facts .layout) (a .packed))) × (valuesAfter s ≡ valuesOf (a .facts .layout) (a .packed))
   -- these are the very floats of one value: what dequantizing code k answers, under the name of its kind
-  pub floats : (g : Facts) → readingOf s ≡ Shown g → captured (a .facts .layout) (a .packed) ≡ true → length (a .values) ≡ 3 * pointsIn (a .facts .layout) (a .packed)
-      → areBytes (a .packed) ≡ true → (k : ℕ) → k < 3 * pointsIn (a .facts .layout) (a .packed) → let l = a .facts .layout in
+  pub floats : (g : Facts) → readingOf s ≡ Shown g → captured (a .facts .layout) (a .packed) ≡ true → length (a .values) ≡ 3 * pointsOf (a .facts .layout) (a .packed)
+      → areBytes (a .packed) ≡ true → (k : ℕ) → k < 3 * pointsOf (a .facts .layout) (a .packed) → let l = a .facts .layout in
       dequantized (l .model) (l .range) (l .depth) (k % 3) (codeAt l (a .packed) k) ≡ named (kindOf (l .model) (k % 3)) (getD (valuesAfter s) k nan)
   -- into a line of any other length: 13, and nothing is changed
-  pub misfit : (g : Facts) → readingOf s ≡ Shown g → eqb (length (a .values)) (3 * pointsIn (a .facts .layout) (a .packed)) ≡ false
+  pub misfit : (g : Facts) → readingOf s ≡ Shown g → eqb (length (a .values)) (3 * pointsOf (a .facts .layout) (a .packed)) ≡ false
       → (decodingOf s ≡ LineRefused wrongLineOrOutput) × (valuesAfter s ≡ a .values)
 
 -- ---- the whole

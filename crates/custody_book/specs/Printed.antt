@@ -1,4 +1,4 @@
--- Those sentences of demand 3 that name editions, with the editions' numbers: as they read since request A1, over editions 1 to 3, and as the customer first worded them, of editions 1 and 2. specs/Meaning.antt has all of the demand over all editions that there are. proofs/Printed.antt proves each claim. Assumes nothing.
+-- Those sentences of demand 3 that name editions, with the editions' numbers: as they read since request A6, over editions 1 to 4, and as the customer first worded them, of editions 1 and 2. specs/Meaning.antt has all of the demand over all editions that there are. proofs/Printed.antt proves each claim. Assumes nothing.
 use Prim.Native.Nat.{ℕ}
 use mathlib.Core.Bool.{Bool, true, false, not, cond, _&&_, _||_}
 use mathlib.Core.Path.{_≡_}
@@ -51,16 +51,16 @@ pub record Worded (w : Wording) (a : Asked) (h : History) : Type 0 where
   -- the access shown is the one first given if every accepted rewrite and the last reading were at an edition that keeps it, and closed if not
   pub access : (g : Facts) → readingOf (h .trace) ≡ Shown g → g .access ≡ cond (acceptedAt (w .keeping) (a .rewrites) (h .trace) && w .keeping (a .last)) (a .facts .access) closed
 
--- ---- since A1: the layout needs a higher edition than 1 in range 3 and at 12 bits, and than 2 in range 3 (`lacksLayout`); 2 and 3 keep the access
+-- ---- since A6: the layout needs a higher edition than 1 of groups, in range 3 and at 12 bits, than 2 of groups and in range 3, and than 3 of groups (`lacksLayout`); 2, 3 and 4 keep the access
 
-abbrev pub oneToThree : ℕ → Bool
-oneToThree e = eqb e 1 || eqb e 2 || eqb e 3
+abbrev pub oneToFour : ℕ → Bool
+oneToFour e = eqb e 1 || eqb e 2 || eqb e 3 || eqb e 4
 
-abbrev pub twoOrThree : ℕ → Bool
-twoOrThree e = eqb e 2 || eqb e 3
+abbrev pub twoToFour : ℕ → Bool
+twoToFour e = eqb e 2 || eqb e 3 || eqb e 4
 
 abbrev pub words : Wording
-words = record { known = oneToThree; lacking = λ e f. lacksLayout e (f .layout); keeping = twoOrThree }
+words = record { known = oneToFour; lacking = λ e f. lacksLayout e (f .layout); keeping = twoToFour }
 
 abbrev pub Printed : Asked → History → Type 0
 Printed a h = Worded words a h
@@ -87,15 +87,21 @@ firstWords = record { known = oneOrTwo; lacking = oneAboutTwelve; keeping = atTw
 abbrev pub FirstPrinted : Asked → History → Type 0
 FirstPrinted a h = Worded firstWords a h
 
--- a history with nothing of A1 in it: neither range 3 nor, in a rewrite or the last reading, edition 3 (the first card may be written at any)
-abbrev pub withoutThree : Asked → Bool
-withoutThree a = not (eqb (a .facts .layout .range) 3) && not (eqb (a .last) 3) && every (λ (r : Rewrite). not (eqb (r .edition) 3)) (a .rewrites)
+-- an edition that A1 or A6 brought
+abbrev pub laterThanTwo : ℕ → Bool
+laterThanTwo e = eqb e 3 || eqb e 4
+
+-- a history with nothing of A1 and A6 in it: neither range 3 nor groups nor, in a rewrite or the last reading, edition 3 or 4 (the first card may be written at any)
+abbrev pub withoutLater : Asked → Bool
+withoutLater a =
+    not (eqb (a .facts .layout .range) 3) && not (eqb (a .facts .layout .sampling) 1) && not (laterThanTwo (a .last))
+    && every (λ (r : Rewrite). not (laterThanTwo (r .edition))) (a .rewrites)
 
 -- whatever is as printed now is, there, as first printed
 abbrev pub PrintedAsFirst : Type 0
-PrintedAsFirst = (a : Asked) (h : History) → withoutThree a ≡ true → Printed a h → FirstPrinted a h
+PrintedAsFirst = (a : Asked) (h : History) → withoutLater a ≡ true → Printed a h → FirstPrinted a h
 
--- ---- the book: at 1 the access becomes closed; at 2, and since A1 at 3, it stays
+-- ---- the book: at 1 the access becomes closed; at 2, and since A1 and A6 at 3 and 4, it stays
 
 abbrev pub AccessPrinted : Type 0
 AccessPrinted = (e access : ℕ) → editionKnown e ≡ true → accessAt e access ≡ cond (eqb e 1) closed access

@@ -1,6 +1,6 @@
 -- One point is answered as a line of one is. Assumes nothing.
 use mathlib.Core.Path.{_≡_, refl, sym, ap, ap₂, _∙_}
-use mathlib.Core.Bool.{Bool, true, false, not, _&&_}
+use mathlib.Core.Bool.{Bool, true, false, not, _&&_, true≢false}
 use mathlib.Core.List.{List}
 use Prim.Native.Nat.{ℕ, _*_, _/_, _%_, _<_}
 use native.Mathlib.Nat.{mul-div-cancel, mul-mod-left}
@@ -13,16 +13,19 @@ use Rattle.lists.specs.Lists.{newOrKept}
 use Rattle.lists.proofs.Lists.{getD-tabulate}
 use Rattle.lists.proofs.Tests.{pass, stop}
 use Rattle.layout.specs.declared.Layout.{Layout}
-use Rattle.layout.specs.Layout.{validLayout}
-use Rattle.layout.proofs.Facts.{valid-says}
+use Rattle.layout.specs.Layout.{grouped, validPoints}
+use Rattle.layout.proofs.Facts.{points-say, not-grouped}
 use Rattle.line.specs.declared.LineAnswer.{LineAnswer}
 use Rattle.line.specs.declared.LineAnswer.the-variants.{Points, Refused as NoLine}
 use Rattle.line.specs.declared.Point.{Point}
 use Rattle.line.specs.Answer.{mostPoints, fitting, accepted}
+use Rattle.line.specs.Line.{pointsIn}
+use Rattle.line.proofs.Own.{own-points}
 use Rattle.line.proofs.Answers.{fits, unpack-outside, unpack-unfit, unpack-points}
 use Rattle.decoding.specs.declared.DecodedPoint.{DecodedPoint}
 use Rattle.decoding.specs.declared.DecodedPoint.the-variants.{Decoded, Refused}
-use Rattle.decoding.specs.Decode.{valueAt, valuesOf, decodeAnswer, firstPoint, decodePoint}
+use Rattle.line_values.specs.Decode.{valueAt, valuesOf, decodeAnswer}
+use Rattle.decoding.specs.Point.{firstPoint, decodePoint}
 
 -- the first three floats of a line
 abbrev pub firstOf : List Float → Point
@@ -52,29 +55,29 @@ one-fits n b pos = go (eqb n b) (fitting n b 3 3) refl refl
         let e : n ≡ b = h .0 ∙ ap (λ (x : ℕ). x * b) d ∙ omega arith in
         sym (eq-eqb n b e) ∙ p
 
-module _ (l : Layout) (s : List ℕ) where
-  first-of : length s / l .bytes ≡ 1 → firstOf (valuesOf l s) ≡ firstPoint l s
+module _ (l : Layout) (own : grouped l ≡ false) (s : List ℕ) where
+  first-of : pointsIn l (length s) ≡ 1 → firstOf (valuesOf l s) ≡ firstPoint l s
   unfolding valuesOf firstPoint
   first-of e =
-      let at : (j : ℕ) → j < 3 → getD (valuesOf l s) j nan ≡ valueAt l s j = λ j h. getD-tabulate (3 * (length s / l .bytes)) (valueAt l s) j nan (omega arith) in
+      let at : (j : ℕ) → j < 3 → getD (valuesOf l s) j nan ≡ valueAt l s j = λ j h. getD-tabulate (3 * pointsIn l (length s)) (valueAt l s) j nan (omega arith) in
       rw (at 0 (lit< tt), at 1 (lit< tt), at 2 (lit< tt))
 
   pub as-line : decodePoint l s ≡ shown (decodeAnswer l (length s) 3) (valuesOf l s)
   unfolding decodePoint
-  as-line = go (validLayout l) (eqb (length s) (l .bytes)) refl refl
+  as-line = go (validPoints l) (eqb (length s) (l .bytes)) refl refl
     where
-      go : (v t : Bool) → validLayout l ≡ v → eqb (length s) (l .bytes) ≡ t → decodePoint l s ≡ shown (decodeAnswer l (length s) 3) (valuesOf l s)
-      go false t p q = stop _ (ap not p) ∙ sym (ap (λ a. shown a (valuesOf l s)) (unpack-outside l (length s) 3 p))
+      go : (v t : Bool) → validPoints l ≡ v → eqb (length s) (l .bytes) ≡ t → decodePoint l s ≡ shown (decodeAnswer l (length s) 3) (valuesOf l s)
+      go false t p q = stop _ (ap not p) ∙ sym (ap (λ a. shown a (valuesOf l s)) (unpack-outside l own (length s) 3 p))
       go true false p q =
-          let pos : 0 < l .bytes = omega (arith, valid-says l p .bytes-least) in
+          let pos : 0 < l .bytes = omega (arith, points-say l p .bytes-least) in
           pass _ (ap not p) (stop _ (ap not q))
-          ∙ sym (ap (λ a. shown a (valuesOf l s)) (unpack-unfit l (length s) 3 p (one-fits (length s) (l .bytes) pos ∙ q)))
+          ∙ sym (ap (λ a. shown a (valuesOf l s)) (unpack-unfit l own (length s) 3 p (one-fits (length s) (l .bytes) pos ∙ q)))
       go true true p q =
-          let pos : 0 < l .bytes = omega (arith, valid-says l p .bytes-least) in
+          let pos : 0 < l .bytes = omega (arith, points-say l p .bytes-least) in
           let f = one-fits (length s) (l .bytes) pos ∙ q in
           let d : length s / l .bytes ≡ 1 = omega (arith, fits (length s) (l .bytes) 3 3 f .2) in
-          pass _ (ap not p) (pass _ (ap not q) (ap Decoded (sym (first-of d))))
-          ∙ sym (ap (λ a. shown a (valuesOf l s)) (unpack-points l (length s) 3 p f))
+          pass _ (ap not p) (pass _ (ap not q) (ap Decoded (sym (first-of (own-points l own (length s) ∙ d)))))
+          ∙ sym (ap (λ a. shown a (valuesOf l s)) (unpack-points l own (length s) 3 p f))
 
   -- what the line's decoding answers and leaves is what the point's answers
   pub point-decoded : (before xs : List Float) (n : ℕ) → Points n ≡ decodeAnswer l (length s) 3 → xs ≡ newOrKept (accepted (decodeAnswer l (length s) 3)) (valuesOf l s) before → Decoded (firstOf xs) ≡ decodePoint l s
@@ -84,3 +87,12 @@ module _ (l : Layout) (s : List ℕ) where
 
   pub point-refused : (k : ℕ) → NoLine k ≡ decodeAnswer l (length s) 3 → Refused k ≡ decodePoint l s
   point-refused k e = ap (λ a. shown a (valuesOf l s)) e ∙ sym as-line
+
+-- of groups there is no point
+pub no-point : (l : Layout) (s : List ℕ) → grouped l ≡ true → Refused 9 ≡ decodePoint l s
+unfolding decodePoint
+no-point l s e = sym (stop _ (ap not (go (validPoints l) refl)))
+  where
+    go : (t : Bool) → validPoints l ≡ t → validPoints l ≡ false
+    go true v = let z : true ≡ false = sym e ∙ not-grouped l v in absurd (true≢false z)
+    go false v = v

@@ -11,17 +11,17 @@ use Rattle.lists.specs.Bytes.{areBytes}
 use Rattle.lists.specs.inner.Stores.{written}
 use Rattle.lists.proofs.Filled.{Filled, filled-more}
 use Rattle.layout.specs.declared.Layout.{Layout}
-use Rattle.layout.specs.Layout.{validLayout}
-use Rattle.layout.proofs.Facts.{valid-says}
+use Rattle.layout.specs.Layout.{validPoints}
+use Rattle.layout.proofs.Facts.{points-say}
 use Rattle.scales.specs.declared.scale.Scale.{Scale}
 use Rattle.scales.specs.declared.channels.Scales.{Scales}
 use Rattle.scales.specs.Value.{valueOf}
 use Rattle.scales.specs.Channel.{scaleAt}
 use Rattle.scales.specs.inner.Fitted.{Fitted}
-use Rattle.line.specs.Line.{codeAt}
+use Rattle.line.specs.Line.{pointCode}
 use Rattle.line.proofs.Points.{point-count, filled-points}
 use Rattle.field.proofs.Line.{code-read, point-reaches}
-use Rattle.decoding.specs.Decode.{valueAt, valuesOf}
+use Rattle.decoding.specs.inner.Points.{pointValue, pointValuesOf}
 use Rattle.decoding.specs.inner.Read.{readValue, scaleIn}
 
 -- the layout's scales, channel by channel
@@ -32,25 +32,23 @@ fitted-in l scales (suc (suc zero)) f h = f .fitted2
 fitted-in l scales (suc (suc (suc j))) f h = absurd (omega arith)
 
 -- value 3 i + j is that of code 3 i + j
-pub value-of : (l : Layout) (s : List ℕ) (i j : ℕ) {sc : Scale} {c : ℕ} → j < 3 → sc ≡ scaleAt l j → c ≡ codeAt l s (3 * i + j) → valueOf sc c ≡ valueAt l s (3 * i + j)
-unfolding valueAt
+pub value-of : (l : Layout) (s : List ℕ) (i j : ℕ) {sc : Scale} {c : ℕ} → j < 3 → sc ≡ scaleAt l j → c ≡ pointCode l s (3 * i + j) → valueOf sc c ≡ pointValue l s (3 * i + j)
 value-of l s i j h e q =
     let r : j ≡ (3 * i + j) % 3 = omega arith in
     ap₂ valueOf (e ∙ ap (scaleAt l) r) q
 
 -- a line of n points
-module _ (l : Layout) (s : List ℕ) (n : ℕ) (ok : validLayout l ≡ true) (whole : length s ≡ l .bytes * n) where
+module _ (l : Layout) (s : List ℕ) (n : ℕ) (ok : validPoints l ≡ true) (whole : length s ≡ l .bytes * n) where
   -- one turn of a loop
-  pub values-more : (out xs ys : List Float) (i at : ℕ) → areBytes s ≡ true → length out ≡ 3 * n → i < n → at ≡ i * l .bytes → Filled out (valueAt l s) (3 * i) xs
-      → ys ≡ written xs (3 * i) (readValue l s at) 3 → Filled out (valueAt l s) (3 * (i + 1)) ys
+  pub values-more : (out xs ys : List Float) (i at : ℕ) → areBytes s ≡ true → length out ≡ 3 * n → i < n → at ≡ i * l .bytes → Filled out (pointValue l s) (3 * i) xs
+      → ys ≡ written xs (3 * i) (readValue l s at) 3 → Filled out (pointValue l s) (3 * (i + 1)) ys
   values-more out xs ys i at are long h e f g =
       filled-more (readValue l s at) 3 (omega arith) (omega arith) (λ j k. value-of l s i j k refl (code-read l s ok are i j at k e (point-reaches l ok n (length s) whole i at h e))) f g
 
   -- the line's points are n
-  pub values-whole : tabulate (3 * n) (valueAt l s) ≡ valuesOf l s
-  unfolding valuesOf
-  values-whole = ap (λ (m : ℕ). tabulate (3 * m) (valueAt l s)) (sym (point-count l s n (omega (arith, valid-says l ok .bytes-least)) whole))
+  pub values-whole : tabulate (3 * n) (pointValue l s) ≡ pointValuesOf l s
+  values-whole = ap (λ (m : ℕ). tabulate (3 * m) (pointValue l s)) (sym (point-count l s n (omega (arith, points-say l ok .bytes-least)) whole))
 
   -- all turns
-  pub values-all : (out xs : List Float) (i : ℕ) → length out ≡ 3 * n → n ≤ i → i ≤ n → Filled out (valueAt l s) (3 * i) xs → xs ≡ valuesOf l s
+  pub values-all : (out xs : List Float) (i : ℕ) → length out ≡ 3 * n → n ≤ i → i ≤ n → Filled out (pointValue l s) (3 * i) xs → xs ≡ pointValuesOf l s
   values-all out xs i long lo hi f = filled-points nan long lo hi f ∙ values-whole

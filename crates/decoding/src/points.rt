@@ -1,16 +1,16 @@
-// A line's points decoded. Every value comes from only the bytes that hold its field.
+// A line's points decoded, where they are of their own. Every value comes from only the bytes that hold its field.
 ghost use mathlib.Core.Path.{_≡_};
 ghost use mathlib.Core.Bool.{true};
 ghost use Prim.Native.Nat.{_+_, _*_, _<_, _≤_};
 ghost use lib.ListN.{length, take, drop};
 ghost use Rattle.lists.specs.inner.Stores.{written};
-ghost use Rattle.layout.specs.Layout.{validLayout};
+ghost use Rattle.layout.specs.Layout.{validPoints};
 ghost use Rattle.scales.specs.Value.{valueOf};
 ghost use Rattle.scales.specs.Channel.{scaleAt};
 ghost use Rattle.scales.specs.inner.Fitted.{Fitted};
 ghost use Rattle.line.specs.inner.Channels.{channelWritten};
 ghost use Rattle.field.specs.inner.Read.{readCode, oneCount};
-ghost use Rattle.decoding.specs.Decode.{valueAt, valuesOf};
+ghost use Rattle.decoding.specs.inner.Points.{pointValue, pointValuesOf};
 ghost use Rattle.decoding.specs.inner.Read.{readValue, scaleIn};
 use field::Field;
 use layout::Layout;
@@ -28,7 +28,7 @@ fn value_at(scale: Scale, field: Field, packed: &[u8], at: usize, count: usize) 
 
 // Stores the three values of point i, which begins at byte `at`. All three fields have one count of bytes.
 fn put(layout: Layout, scales: Scales, packed: &[u8], at: usize, out: &mut [f32], i: usize)
-    requires { ⌜ (validLayout layout ≡ true) × (oneCount layout ≡ true) × Fitted layout scales ⌝ }
+    requires { ⌜ (validPoints layout ≡ true) × (oneCount layout ≡ true) × Fitted layout scales ⌝ }
     requires { ⌜ (at + layout .bytes ≤ length (now packed)) × (3 * i + 3 ≤ length (now out)) ⌝ }
     ensures { λ _. ⌜ now (out .exit) ≡ written (now (out .entry)) (3 * i) (λ j. readValue layout (now (packed .entry)) at j) 3 ⌝ }
 {
@@ -43,9 +43,9 @@ fn put(layout: Layout, scales: Scales, packed: &[u8], at: usize, out: &mut [f32]
 
 // The values of all points of a line of n, point by point.
 fn points(layout: Layout, scales: Scales, packed: &[u8], out: &mut [f32], n: usize)
-    requires { ⌜ (validLayout layout ≡ true) × (oneCount layout ≡ true) × Fitted layout scales ⌝ }
+    requires { ⌜ (validPoints layout ≡ true) × (oneCount layout ≡ true) × Fitted layout scales ⌝ }
     requires { ⌜ (length (now packed) ≡ layout .bytes * n) × (length (now out) ≡ 3 * n) ⌝ }
-    ensures { λ _. ⌜ now (out .exit) ≡ valuesOf layout (now (packed .entry)) ⌝ }
+    ensures { λ _. ⌜ now (out .exit) ≡ pointValuesOf layout (now (packed .entry)) ⌝ }
 {
     let mut at = 0;
     let mut i = 0;
@@ -58,9 +58,9 @@ fn points(layout: Layout, scales: Scales, packed: &[u8], out: &mut [f32], n: usi
 
 // The values of one channel of n points.
 fn one_channel(layout: Layout, channel: u8, scale: Scale, packed: &[u8], out: &mut [f32], n: usize)
-    requires { ⌜ (validLayout layout ≡ true) × (channel < 3) × (scale ≡ scaleAt layout channel) ⌝ }
+    requires { ⌜ (validPoints layout ≡ true) × (channel < 3) × (scale ≡ scaleAt layout channel) ⌝ }
     requires { ⌜ (length (now packed) ≡ layout .bytes * n) × (length (now out) ≡ 3 * n) ⌝ }
-    ensures { λ _. ⌜ now (out .exit) ≡ channelWritten (now (out .entry)) (valueAt layout (now (packed .entry))) channel n ⌝ }
+    ensures { λ _. ⌜ now (out .exit) ≡ channelWritten (now (out .entry)) (pointValue layout (now (packed .entry))) channel n ⌝ }
 {
     let field = Field::of(layout, channel);
     let count = field.count;
@@ -91,9 +91,9 @@ fn scale_of(scales: Scales, channel: u8) -> Scale
 // the count can be taken out of the loop. (The calls stand in a loop, and not one after the other, so that the compiler has one
 // place to put the function in. Else it would lay the scales out in memory for every line.)
 fn channels(layout: Layout, scales: Scales, packed: &[u8], out: &mut [f32], n: usize)
-    requires { ⌜ (validLayout layout ≡ true) × Fitted layout scales ⌝ }
+    requires { ⌜ (validPoints layout ≡ true) × Fitted layout scales ⌝ }
     requires { ⌜ (length (now packed) ≡ layout .bytes * n) × (length (now out) ≡ 3 * n) ⌝ }
-    ensures { λ _. ⌜ now (out .exit) ≡ valuesOf layout (now (packed .entry)) ⌝ }
+    ensures { λ _. ⌜ now (out .exit) ≡ pointValuesOf layout (now (packed .entry)) ⌝ }
 {
     let mut k = 0;
     while k < 3 {
@@ -104,9 +104,9 @@ fn channels(layout: Layout, scales: Scales, packed: &[u8], out: &mut [f32], n: u
 
 // The values of all points of a line of n.
 pub(crate) fn all(layout: Layout, scales: Scales, packed: &[u8], out: &mut [f32], n: usize)
-    requires { ⌜ (validLayout layout ≡ true) × Fitted layout scales ⌝ }
+    requires { ⌜ (validPoints layout ≡ true) × Fitted layout scales ⌝ }
     requires { ⌜ (length (now packed) ≡ layout .bytes * n) × (length (now out) ≡ 3 * n) ⌝ }
-    ensures { λ _. ⌜ now (out .exit) ≡ valuesOf layout (now (packed .entry)) ⌝ }
+    ensures { λ _. ⌜ now (out .exit) ≡ pointValuesOf layout (now (packed .entry)) ⌝ }
 {
     if field::one_count(layout) {
         points(layout, scales, packed, out, n);

@@ -1,15 +1,18 @@
 -- The values of a packed line, one by one. Assumes nothing.
 use mathlib.Core.Path.{_≡_, refl, sym, ap, ap₂, _∙_}
-use mathlib.Core.Bool.{Bool, true, false, not}
+use mathlib.Core.Bool.{Bool, true, false, not, _&&_}
+use mathlib.Core.Logic.{inl, inr}
 use mathlib.Core.List.{List, [], _∷_, map}
-use Prim.Native.Nat.{ℕ, zero, suc, _*_, _/_, _%_, _^_, _≤_, _<_}
-use native.Mathlib.Nat.{mod-lt, mul-comm, mul-div-cancel}
+use Prim.Native.Nat.{ℕ, zero, suc, _+_, _*_, _/_, _%_, _^_, _≤_, _<_}
+use native.Mathlib.Nat.{mod-lt}
 use native.Mathlib.Omega.{arith}
-use borrow.Author.Tests.{le-ltb, not-true}
+use borrow.Author.Tests.{le-ltb, ltb-true, ltb-false, not-true}
+use lib.Dec.{ltb}
 use lib.Ieee.{Float, nan, inf, fin, isNan}
 use lib.ListN.{length, getD}
 use lib.Pow.{pow-pos}
 use Rattle.lists.specs.Lists.{tabulate, count}
+use Rattle.lists.specs.Bytes.{areBytes}
 use Rattle.lists.proofs.Every.{every-of, every-at}
 use Rattle.lists.proofs.Lists.{length-tabulate, getD-tabulate, tabulate-same}
 use Rattle.lists.proofs.Counts.{count-same}
@@ -20,7 +23,7 @@ use Rattle.fractions.specs.Fraction.{isCut, clamped}
 use Rattle.layout.specs.declared.Layout.{Layout}
 use Rattle.layout.specs.declared.range.Range.{Range}
 use Rattle.layout.specs.Layout.{depthKnown, topOf, rangeOf, kindOf, offsetOf, validLayout}
-use Rattle.layout.proofs.Facts.{valid-says}
+use Rattle.layout.proofs.Facts.{one-of-two, not-grouped, groups-say, valid-says}
 use Rattle.scales.specs.declared.scale.Scale.{Scale}
 use Rattle.quantization.specs.declared.code.Coded.the-variants.{Code}
 use Rattle.quantization.specs.declared.Quantized.the-variants.{Code as Answered}
@@ -33,9 +36,14 @@ use Rattle.quantization_laws.specs.Printed.{printedLow, printedHigh, excluded}
 use Rattle.quantization_laws.proofs.Printed.{ends-printed, within-ends, included-code, excluded-code}
 use Rattle.quantization_laws.proofs.Return.{code-returns}
 use Rattle.line.specs.Point.{pointOf}
-use Rattle.line.specs.Line.{codeAt, codesOf, PackedLine}
-use Rattle.encoding.specs.Encode.{valueCode, quantizedOf, valueCut, cutsOf, allNumbers}
-use Rattle.decoding.specs.Decode.{valueAt, valuesOf}
+use Rattle.line.specs.Group.{byteOfCode, groupCode}
+use Rattle.line.specs.Line.{pointCode, codeAt, pointsIn, codesOf, looked, PackedLine}
+use Rattle.line.proofs.Own.{own-code}
+use Rattle.line.proofs.Grouped.{group-code}
+use Rattle.scanline_laws.proofs.Accepted.{points-in}
+use Rattle.scanline_laws.proofs.Looked.{beyond}
+use Rattle.line_values.specs.Encode.{valueCode, quantizedOf, valueCut, cutsOf, allNumbers}
+use Rattle.line_values.specs.Decode.{valueAt, valuesOf}
 use Rattle.decoding_laws.specs.Claims.{clampedTo, noneExcluded}
 
 -- what has a code is a number
@@ -67,21 +75,32 @@ cut-excluded n d r c h = go (excluded r n c) refl
     go true e = ap (λ (x : Clamped). x .cut) (excluded-code n d r c e)
     go false e = ap (λ (x : Clamped). x .cut) (included-code n d r c h e)
 
-module _ (l : Layout) (s : List ℕ) where
-  -- a code of a packed line is one of the depth
-  code-le : (k : ℕ) → codeAt l s k ≤ topOf (l .depth)
-  unfolding codeAt
-  code-le k = let pos = pow-pos (l .depth) in omega (arith, pos, mod-lt (pointOf l s (k / 3) / 2 ^ offsetOf l (k % 3)) pos)
+-- a byte, wherever it stands
+byte-lt : (s : List ℕ) (k : ℕ) → areBytes s ≡ true → getD s k 0 < 256
+byte-lt s k are = go (ltb k (length s)) refl
+  where
+    go : (t : Bool) → ltb k (length s) ≡ t → getD s k 0 < 256
+    go true e = ltb-true (getD s k 0) 256 (every-at (λ x. ltb x 256) 0 s k are (ltb-true k (length s) e))
+    go false e = omega (arith, beyond s k 0 (ltb-false k (length s) e))
 
-  pub length-values : length (valuesOf l s) ≡ 3 * (length s / l .bytes)
+module _ (l : Layout) (s : List ℕ) where
+  pub length-values : length (valuesOf l s) ≡ 3 * pointsIn l (length s)
   unfolding valuesOf
-  length-values = length-tabulate (3 * (length s / l .bytes)) (valueAt l s)
+  length-values = length-tabulate (3 * pointsIn l (length s)) (valueAt l s)
 
   pub value-at : (k : ℕ) → k < length (valuesOf l s) → getD (valuesOf l s) k nan ≡ valueOf (scaleAt l (k % 3)) (codeAt l s k)
   unfolding valuesOf valueAt
-  value-at k h = getD-tabulate (3 * (length s / l .bytes)) (valueAt l s) k nan (omega (arith, length-values))
+  value-at k h = getD-tabulate (3 * pointsIn l (length s)) (valueAt l s) k nan (omega (arith, length-values))
 
-  module _ (ok : validLayout l ≡ true) where
+  module _ (ok : validLayout l ≡ true) (are : areBytes s ≡ true) where
+    -- a code of a packed line is one of the depth
+    code-le : (k : ℕ) → codeAt l s k ≤ topOf (l .depth)
+    unfolding pointCode groupCode
+    code-le k = elim (one-of-two l ok) [
+      | inl p ↦ let pos = pow-pos (l .depth) in omega (arith, own-code l (not-grouped l p) s k, pos, mod-lt (pointOf l s (k / 3) / 2 ^ offsetOf l (k % 3)) pos)
+      | inr g ↦ let top : topOf (l .depth) ≡ 255 = ap topOf (groups-say l g .depth) in omega (arith, group-code l g s k, top, byte-lt s (4 * (k / 6) + byteOfCode (k % 6)) are)
+    ]
+
     -- the code of value k is code k, clamped
     code-back : (k : ℕ) → k < length (valuesOf l s) → codeOf (scaleAt l (k % 3)) (getD (valuesOf l s) k nan) ≡ Code (clamped (printedLow (rangeOf (l .range)) (l .depth)) (printedHigh (rangeOf (l .range)) (l .depth)) (pos (codeAt l s k)))
     code-back k h =
@@ -97,24 +116,24 @@ module _ (l : Layout) (s : List ℕ) where
     codes-back =
         tabulate-same 0 (length (valuesOf l s)) (valueCode l (valuesOf l s)) (λ k. clampedTo l (codeAt l s k)) (λ k h. ap (codeOr 0) (code-back k h))
         ∙ ap (λ (m : ℕ). tabulate m (λ k. clampedTo l (codeAt l s k))) length-values
-        ∙ sym (map-tabulate (clampedTo l) (3 * (length s / l .bytes)) (codeAt l s))
+        ∙ sym (map-tabulate (clampedTo l) (3 * pointsIn l (length s)) (codeAt l s))
 
     pub all-numbers : allNumbers (valuesOf l s) ≡ true
     all-numbers = every-of (λ v. not (isNan v)) nan (valuesOf l s) (λ k h. has-code (scaleAt l (k % 3)) (getD (valuesOf l s) k nan) _ (code-back k h))
 
     -- and it is cut exactly if it is left out of the return
-    pub cuts-back : cutsOf l (valuesOf l s) ≡ count (3 * (length s / l .bytes)) (λ k. excluded (rangeOf (l .range)) (l .depth) (codeAt l s k))
+    pub cuts-back : cutsOf l (valuesOf l s) ≡ count (3 * pointsIn l (length s)) (λ k. looked l k && excluded (rangeOf (l .range)) (l .depth) (codeAt l s k))
     unfolding cutsOf valueCut
     cuts-back =
-        count-same (length (valuesOf l s)) (valueCut l (valuesOf l s)) (λ k. excluded (rangeOf (l .range)) (l .depth) (codeAt l s k))
-        (λ k h. ap isCutCode (code-back k h) ∙ cut-excluded (l .depth) (valid-says l ok .depth) (rangeOf (l .range)) (codeAt l s k) (code-le k))
-        ∙ ap (λ (m : ℕ). count m (λ k. excluded (rangeOf (l .range)) (l .depth) (codeAt l s k))) length-values
+        count-same (length (valuesOf l s)) (λ k. looked l k && valueCut l (valuesOf l s) k) (λ k. looked l k && excluded (rangeOf (l .range)) (l .depth) (codeAt l s k))
+        (λ k h. ap (λ (t : Bool). looked l k && t) (ap isCutCode (code-back k h) ∙ cut-excluded (l .depth) (valid-says l ok .depth) (rangeOf (l .range)) (codeAt l s k) (code-le k)))
+        ∙ ap (λ (m : ℕ). count m (λ k. looked l k && excluded (rangeOf (l .range)) (l .depth) (codeAt l s k))) length-values
 
     -- codes that are not left out are as they were
     pub none-clamped : noneExcluded l (codesOf l s) ≡ true → map (clampedTo l) (codesOf l s) ≡ codesOf l s
     unfolding codesOf
     none-clamped none =
-        let m = 3 * (length s / l .bytes) in
+        let m = 3 * pointsIn l (length s) in
         map-tabulate (clampedTo l) m (codeAt l s)
         ∙ tabulate-same 0 m (λ k. clampedTo l (codeAt l s k)) (codeAt l s) (λ k h.
         let r = rangeOf (l .range) in
@@ -130,9 +149,7 @@ module _ (l : Layout) (s : List ℕ) where
 
 -- of n points
 pub values-of : (l : Layout) (n : ℕ) (s : List ℕ) → PackedLine l n s → length (valuesOf l s) ≡ 3 * n
-values-of l n s p =
-    let pos : 0 < l .bytes = omega (arith, valid-says l (p .valid) .bytes-least) in
-    length-values l s ∙ ap (λ (m : ℕ). 3 * m) (ap (λ (m : ℕ). m / l .bytes) (p .points ∙ mul-comm (l .bytes) n) ∙ mul-div-cancel n pos)
+values-of l n s p = length-values l s ∙ ap (λ (m : ℕ). 3 * m) (points-in l (p .valid) n (p .whole) (length s) (p .points))
 
 -- three values by their places
 pub three : (vs : List Float) → length vs ≡ 3 → getD vs 0 nan ∷ getD vs 1 nan ∷ getD vs 2 nan ∷ [] ≡ vs

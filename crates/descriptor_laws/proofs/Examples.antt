@@ -17,7 +17,7 @@ use Rattle.descriptor_writer.specs.Writing.{frontBytes, samplesBytes, descripto
 
 -- B', G', R' of 8 bits in three bytes, full range, BT.709
 abbrev bgr : Layout
-bgr = record { model = 1; primaries = 1; range = 2; depth = 8; bytes = 3; offset0 = 16; offset1 = 8; offset2 = 0 }
+bgr = record { model = 1; primaries = 1; range = 2; depth = 8; bytes = 3; offset0 = 16; offset1 = 8; offset2 = 0; sampling = 0 }
 
 abbrev bgrBytes : List ℕ
 bgrBytes =
@@ -29,7 +29,7 @@ bgrBytes =
 
 -- Y', Cb, Cr of 10 bits in four bytes, Cb lowest and then Y', narrow range, BT.2020: 64 and 940, or 960
 abbrev ten : Layout
-ten = record { model = 2; primaries = 4; range = 1; depth = 10; bytes = 4; offset0 = 10; offset1 = 0; offset2 = 20 }
+ten = record { model = 2; primaries = 4; range = 1; depth = 10; bytes = 4; offset0 = 10; offset1 = 0; offset2 = 20; sampling = 0 }
 
 abbrev tenBytes : List ℕ
 tenBytes =
@@ -41,7 +41,7 @@ tenBytes =
 
 -- Y', Cb, Cr of 8 bits in three bytes, A1's range, BT.601: 0 and 256
 abbrev early : Layout
-early = record { model = 2; primaries = 2; range = 3; depth = 8; bytes = 3; offset0 = 0; offset1 = 8; offset2 = 16 }
+early = record { model = 2; primaries = 2; range = 3; depth = 8; bytes = 3; offset0 = 0; offset1 = 8; offset2 = 16; sampling = 0 }
 
 abbrev earlyBytes : List ℕ
 earlyBytes =

@@ -16,7 +16,7 @@ use Rattle.lists.proofs.Lists.{is-tabulate}
 use Rattle.lists.proofs.Tests.{and-left, and-right, and3}
 use Rattle.layout.specs.declared.Layout.{Layout}
 use Rattle.layout.specs.declared.range.Range.{Range}
-use Rattle.layout.specs.Layout.{modelKnown, primariesKnown, rangeKnown, rangeOf, depthKnown, bytesKnown, kindOf, validLayout}
+use Rattle.layout.specs.Layout.{modelKnown, primariesKnown, rangeKnown, rangeOf, depthKnown, bytesKnown, kindOf, validPoints}
 use Rattle.descriptor_samples.specs.declared.sample.Sample.{Sample}
 use Rattle.descriptor_samples.specs.declared.samples.Samples.{Samples}
 use Rattle.descriptor_layout.specs.declared.DescriptorReading.{DescriptorReading}
@@ -184,9 +184,9 @@ all-say model r n s e = and3 (states model r n (s .first)) (states model r n (s 
 
 -- the tests of a valid layout, together
 says-valid : (l : Layout) (s : Samples) → modelKnown (l .model) ≡ true → primariesKnown (l .primaries) ≡ true → rangeKnown (l .range) ≡ true
-    → depthKnown (l .depth) ≡ true → bytesKnown (l .bytes) ≡ true → Told l s → validLayout l ≡ true
-unfolding validLayout
-says-valid l s m p r d b t = rw (m, p, r, d, b, t .inside0, t .inside1, t .inside2, t .apart01, t .apart02, t .apart12)
+    → depthKnown (l .depth) ≡ true → bytesKnown (l .bytes) ≡ true → Told l s → l .sampling ≡ 0 → validPoints l ≡ true
+unfolding validPoints
+says-valid l s m p r d b t o = rw (m, p, r, d, b, t .inside0, t .inside1, t .inside2, t .apart01, t .apart02, t .apart12, o)
 
 module _ (b : List ℕ) (l : Layout) (p : Passed b l) where
   right : Right (getD b 20 0) (samplesIn b)
@@ -215,14 +215,14 @@ module _ (b : List ℕ) (l : Layout) (p : Passed b l) where
       (of-read (samplesIn b .third) (r .third-length) (r .third-position) (q .2))
       refl refl refl
 
-  valid-read : validLayout (layoutIn b) ≡ true
+  valid-read : validPoints (layoutIn b) ≡ true
   unfolding layoutFrom colorRight
   valid-read =
       let colors = and3 (modelKnown (getD b 12 0) && primariesKnown (getD b 13 0)) (eqb (getD b 14 0) 3) (eqb (getD b 15 0) 0) (p .color) in
       says-valid (layoutIn b) (samplesIn b)
       (and-left (modelKnown (getD b 12 0)) (primariesKnown (getD b 13 0)) (colors .0))
       (and-right (modelKnown (getD b 12 0)) (primariesKnown (getD b 13 0)) (colors .0))
-      (stated .1) (right .depth) (planes-bytes b (p .planes)) told-read
+      (stated .1) (right .depth) (planes-bytes b (p .planes)) told-read refl
 
   bytes-read : Bytes b → b ≡ descriptorBytes (layoutIn b)
   unfolding descriptorBytes samplesBytes samplesIn
@@ -234,4 +234,4 @@ module _ (b : List ℕ) (l : Layout) (p : Passed b l) where
 pub accepts-no-other : AcceptsNoOther
 accepts-no-other b l e h =
     let p = all-passed b l h in
-    (subst (λ (m : Layout). validLayout m ≡ true) (p .is) (valid-read b l p), subst (λ (m : Layout). b ≡ descriptorBytes m) (p .is) (bytes-read b l p e))
+    (subst (λ (m : Layout). validPoints m ≡ true) (p .is) (valid-read b l p), subst (λ (m : Layout). b ≡ descriptorBytes m) (p .is) (bytes-read b l p e))

@@ -16,7 +16,7 @@ use Rattle.layout.specs.declared.kind.Kind.{Kind}
 use Rattle.layout.specs.Layout.{rangeNumber, rangeOf, depthKnown, kindOf, apart}
 use Rattle.layout.proofs.Depths.{Steps, steps}
 use Rattle.layout.proofs.Known.{range-number}
-use Rattle.layout.proofs.Facts.{Valid}
+use Rattle.layout.proofs.Facts.{Points}
 use Rattle.descriptor_samples.specs.declared.sample.Sample.{Sample}
 use Rattle.descriptor_samples.specs.declared.samples.Samples.{Samples}
 use Rattle.descriptor_samples.specs.Limits.{lowerOf, upperOf}
@@ -99,7 +99,7 @@ above x y n e h le = elim (or-cases (leb (x + n) y) (leb (y + n) x) e) [
   | inr q ↦ leb-true (y + n) x q
 ]
 
-module _ (l : Layout) (v : Valid l) where
+module _ (l : Layout) (v : Points l) where
   depth-again : l .depth - 1 + 1 ≡ l .depth
   depth-again = omega (arith, v .depth-least)
 

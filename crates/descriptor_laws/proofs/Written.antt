@@ -16,7 +16,7 @@ use Rattle.layout.specs.declared.kind.Kind.the-variants.{Brightness, Difference
 use Rattle.layout.specs.Layout.{rangeNumber, rangeOf, bytesKnown, kindOf}
 use Rattle.layout.proofs.Depths.{Steps, steps}
 use Rattle.layout.proofs.Known.{range-number}
-use Rattle.layout.proofs.Facts.{Valid, valid-says}
+use Rattle.layout.proofs.Facts.{Points, points-say}
 use Rattle.descriptor_samples.specs.declared.sample.Sample.{Sample}
 use Rattle.descriptor_samples.specs.declared.samples.Samples.{Samples}
 use Rattle.descriptor_layout.specs.declared.DescriptorReading.the-variants.{Accepted}
@@ -73,7 +73,7 @@ again-in : (l : Layout) → samplesIn (descriptorBytes l)
 unfolding descriptorBytes samplesBytes frontBytes sampleBytes bytesOf samplesIn sampleIn
 again-in l = refl
 
-module _ (l : Layout) (v : Valid l) where
+module _ (l : Layout) (v : Points l) where
   small : Steps (l .depth)
   small = steps (l .depth) (v .depth-least) (v .depth-most)
 
@@ -122,7 +122,17 @@ module _ (l : Layout) (v : Valid l) where
   layout-again =
       let o = offsets l in
       let n : samplesOf l .first .length + 1 ≡ l .depth = ap (λ (k : ℕ). k + 1) (of-samples l .0 .length) ∙ omega (arith, v .depth-least) in
-      rw (range-samples l v, n, o .0, o .1, o .2) refl
+      λ i. record {
+        model = l .model;
+        primaries = l .primaries;
+        range = range-samples l v i;
+        depth = n i;
+        bytes = l .bytes;
+        offset0 = o .0 i;
+        offset1 = o .1 i;
+        offset2 = o .2 i;
+        sampling = sym (v .own) i;
+      }
 
   -- no row applies
   header-is : headerRight (descriptorBytes l) ≡ true
@@ -173,4 +183,4 @@ module _ (l : Layout) (v : Valid l) where
       ∙ ap Accepted layout-is
 
 pub accepts : Accepts
-accepts l e = read-descriptor l (valid-says l e)
+accepts l e = read-descriptor l (points-say l e)

@@ -3,6 +3,7 @@ use Prim.Native.Nat.{ℕ, _+_}
 use mathlib.Core.Bool.{not, cond}
 use lib.Dec.{eqb}
 use Rattle.layout.specs.declared.Layout.{Layout}
+use Rattle.layout.specs.Layout.{ownSampling}
 use Rattle.refusal.specs.Refusal.{wrongSample, noRange}
 use Rattle.descriptor_samples.specs.declared.samples.Samples.{Samples}
 use Rattle.descriptor_samples.specs.Samples.{samplesRight, rangeIn}
@@ -16,7 +17,7 @@ offsetIn s channel =
     (cond (eqb (s .second .channel) channel) (s .second .offset)
     (s .third .offset))
 
--- the layout of these numbers and samples
+-- the layout of these numbers and samples, of points of their own (A6's groups have no descriptor)
 unfoldable pub layoutFrom : ℕ → ℕ → ℕ → ℕ → Samples → Layout
 layoutFrom model primaries range bytes s =
     record {
@@ -28,6 +29,7 @@ layoutFrom model primaries range bytes s =
       offset0 = offsetIn s 0;
       offset1 = offsetIn s 1;
       offset2 = offsetIn s 2;
+      sampling = ownSampling;
     }
 
 -- what the samples tell with model, primaries and bytes a point: rows 5 and 6, and the layout

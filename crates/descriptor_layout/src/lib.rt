@@ -32,7 +32,7 @@ fn offset_in(samples: Samples, channel: u8) -> u16
     }
 }
 
-// The layout of these numbers and samples.
+// The layout of these numbers and samples, of points of their own: a descriptor tells no groups (request A6).
 fn layout_from(model: u8, primaries: u8, range: u8, bytes: u8, samples: Samples) -> Layout
     requires { ⌜ (bytesKnown bytes ≡ true) × (samplesRight bytes samples ≡ true) ⌝ }
     ensures { λ r. ⌜ r ≡ layoutFrom model primaries range bytes samples ⌝ }
@@ -46,6 +46,7 @@ fn layout_from(model: u8, primaries: u8, range: u8, bytes: u8, samples: Samples)
         offset0: offset_in(samples, 0) as u8,
         offset1: offset_in(samples, 1) as u8,
         offset2: offset_in(samples, 2) as u8,
+        sampling: 0,
     }
 }
 

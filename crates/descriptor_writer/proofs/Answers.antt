@@ -8,22 +8,22 @@ use lib.ListN.{length}
 use Rattle.lists.specs.Lists.{newOrKept}
 use Rattle.lists.proofs.Tests.{pass, stop}
 use Rattle.layout.specs.declared.Layout.{Layout}
-use Rattle.layout.specs.Layout.{validLayout}
+use Rattle.layout.specs.Layout.{validPoints}
 use Rattle.refusal.specs.declared.Written.{Written}
 use Rattle.refusal.specs.declared.Written.the-variants.{Done, Refused}
 use Rattle.refusal.specs.Written.{accepted}
 use Rattle.descriptor_writer.specs.Writing.{descriptorBytes, writeAnswer, writeOutput}
 
 module _ (l : Layout) (out : List ℕ) where
-  pub refused-9 : validLayout l ≡ false → Refused 9 ≡ writeAnswer l (length out)
+  pub refused-9 : validPoints l ≡ false → Refused 9 ≡ writeAnswer l (length out)
   unfolding writeAnswer
   refused-9 e = sym (stop _ (ap not e))
 
-  pub refused-13 : validLayout l ≡ true → eqb (length out) 76 ≡ false → Refused 13 ≡ writeAnswer l (length out)
+  pub refused-13 : validPoints l ≡ true → eqb (length out) 76 ≡ false → Refused 13 ≡ writeAnswer l (length out)
   unfolding writeAnswer
   refused-13 v e = sym (pass _ (ap not v) (stop _ (ap not e)))
 
-  pub done : validLayout l ≡ true → eqb (length out) 76 ≡ true → Done ≡ writeAnswer l (length out)
+  pub done : validPoints l ≡ true → eqb (length out) 76 ≡ true → Done ≡ writeAnswer l (length out)
   unfolding writeAnswer
   done v e = sym (pass _ (ap not v) (pass _ (ap not e) refl))
 

@@ -7,7 +7,7 @@ use lib.ListN.{length, replicate}
 use Rattle.lists.specs.Lists.{newOrKept}
 use Rattle.lists.specs.Bytes.{bytesOf}
 use Rattle.layout.specs.declared.Layout.{Layout}
-use Rattle.layout.specs.Layout.{validLayout}
+use Rattle.layout.specs.Layout.{validPoints}
 use Rattle.refusal.specs.Refusal.{outside, wrongLineOrOutput}
 use Rattle.refusal.specs.declared.Written.{Written}
 use Rattle.refusal.specs.declared.Written.the-variants.{Done, Refused}
@@ -36,10 +36,10 @@ samplesBytes l =
 unfoldable pub descriptorBytes : Layout → List ℕ
 descriptorBytes l = frontBytes l ++ samplesBytes l
 
--- writing into so many bytes: 9, then 13
+-- writing into so many bytes: 9, for groups too (A6), then 13
 unfoldable pub writeAnswer : Layout → ℕ → Written
 writeAnswer l bytes =
-    cond (not (validLayout l)) (Refused outside)
+    cond (not (validPoints l)) (Refused outside)
     (cond (not (eqb bytes descriptorSize)) (Refused wrongLineOrOutput)
     Done)
 

@@ -14,12 +14,12 @@ mod store;
 pub use field::Field;
 pub use field::Fields;
 
-// Writes the descriptor of a layout. Refused: 9, then 13; `out` is then as it was.
+// Writes the descriptor of a layout. Refused: 9, also for groups (request A6), then 13; `out` is then as it was.
 pub fn write(layout: Layout, out: &mut [u8]) -> Written
     ensures answer { λ r. ⌜ r ≡ writeAnswer layout (length (now (out .entry))) ⌝ }
     ensures memory { λ r. ⌜ now (out .exit) ≡ writeOutput layout (now (out .entry)) ⌝ }
 {
-    if !layout.valid() {
+    if !layout.valid_points() {
         return Written::Refused(refusal::OUTSIDE);
     }
     if out.len() != DESCRIPTOR_SIZE {

@@ -1,20 +1,21 @@
-// A line of floats encoded: each value's code on its channel's scale, the codes packed, and the values that were cut counted.
+// A line of floats encoded to points of their own: each value's code on its channel's scale, the codes packed, and the values that were cut counted.
 ghost use mathlib.Core.Path.{_≡_};
 ghost use mathlib.Core.Bool.{true, not};
 ghost use Prim.Native.Nat.{_+_, _*_, _≤_};
 ghost use lib.Dec.{T};
 ghost use lib.ListN.{length};
 ghost use lib.Ieee.{isNan};
-ghost use Rattle.layout.specs.Layout.{validLayout};
+ghost use Rattle.layout.specs.Layout.{validPoints};
 ghost use Rattle.quantization.specs.declared.code.Coded.the-variants.{Code};
 ghost use Rattle.quantization.specs.Code.{codeOf};
 ghost use Rattle.scales.specs.declared.scale.Scale.{Scale};
 ghost use Rattle.scales.specs.inner.Floats.{floatScale, Fine};
 ghost use Rattle.scales.specs.inner.Fitted.{Fitted};
-ghost use Rattle.line.specs.Line.{joined as joinedOf, packedOf};
+ghost use Rattle.line.specs.Line.{joined as joinedOf};
+ghost use Rattle.line.specs.inner.Points.{pointsPacked};
 ghost use Rattle.lists.specs.Lists.{tabulate, count};
 ghost use Rattle.encoding.specs.inner.Floats.{floatScales, InFloats};
-ghost use Rattle.encoding.specs.Encode.{quantizedOf, valueCut, cutsOf, allNumbers};
+ghost use Rattle.line_values.specs.Encode.{quantizedOf, valueCut, cutsOf, allNumbers};
 use fractions::Clamped;
 use layout::Layout;
 use scales::FloatScale;
@@ -69,7 +70,7 @@ pub struct PointCodes {
 
 // Point i of a line of values.
 fn joined(layout: Layout, scales: FloatScales, values: &[f32], i: usize) -> PointCodes
-    requires { ⌜ (validLayout layout ≡ true) × InFloats layout scales × (allNumbers (now values) ≡ true) × (3 * i + 3 ≤ length (now values)) ⌝ }
+    requires { ⌜ (validPoints layout ≡ true) × InFloats layout scales × (allNumbers (now values) ≡ true) × (3 * i + 3 ≤ length (now values)) ⌝ }
     ensures number { λ r. ⌜ r .number ≡ joinedOf layout (quantizedOf layout (now (values .entry))) i ⌝ }
     ensures cuts { λ r. ⌜ count (3 * i) (valueCut layout (now (values .entry))) + r .cuts ≡ count (3 * (i + 1)) (valueCut layout (now (values .entry))) ⌝ }
 {
@@ -90,7 +91,7 @@ pub struct EightCodes {
 
 // Eight points from point i on, all worked out before any is stored, so that the compiler can do it side by side.
 fn eight(layout: Layout, scales: FloatScales, values: &[f32], i: usize) -> EightCodes
-    requires { ⌜ (validLayout layout ≡ true) × InFloats layout scales × (allNumbers (now values) ≡ true) × (3 * i + 24 ≤ length (now values)) ⌝ }
+    requires { ⌜ (validPoints layout ≡ true) × InFloats layout scales × (allNumbers (now values) ≡ true) × (3 * i + 24 ≤ length (now values)) ⌝ }
     ensures numbers { λ r. ⌜ r .numbers ≡ tabulate 8 (λ k. joinedOf layout (quantizedOf layout (now (values .entry))) (i + k)) ⌝ }
     ensures cuts { λ r. ⌜ count (3 * i) (valueCut layout (now (values .entry))) + r .cuts ≡ count (3 * (i + 8)) (valueCut layout (now (values .entry))) ⌝ }
 {
@@ -114,10 +115,10 @@ pub(crate) fn points(
     out: &mut [u8],
     n: usize,
 ) -> u64
-    requires { ⌜ (validLayout layout ≡ true) × Fitted layout scales × (allNumbers (now values) ≡ true) ⌝ }
+    requires { ⌜ (validPoints layout ≡ true) × Fitted layout scales × (allNumbers (now values) ≡ true) ⌝ }
     requires { ⌜ (length (now values) ≡ 3 * n) × (length (now out) ≡ layout .bytes * n) × (n ≤ 4096) ⌝ }
     ensures cuts { λ r. ⌜ r ≡ cutsOf layout (now (values .entry)) ⌝ }
-    ensures memory { λ _. ⌜ now (out .exit) ≡ packedOf layout (quantizedOf layout (now (values .entry))) ⌝ }
+    ensures memory { λ _. ⌜ now (out .exit) ≡ pointsPacked layout (quantizedOf layout (now (values .entry))) ⌝ }
 {
     let size = layout.bytes as usize;
     let floats = in_floats(scales);

@@ -1,8 +1,9 @@
 // Lines of floats, three a point in channel order, encoded (document 01, "Codes and floats").
 ghost use mathlib.Core.Path.{_≡_};
+ghost use mathlib.Core.Bool.{false};
 ghost use lib.ListN.{length};
-ghost use Rattle.line.specs.Line.{pointValues};
-ghost use Rattle.encoding.specs.Encode.{encodeAnswer, encodeOutput};
+ghost use Rattle.layout.specs.Layout.{grouped};
+ghost use Rattle.line_values.specs.Encode.{encodeAnswer, encodeOutput, encodePointAnswer, encodePointOutput};
 use layout::Layout;
 use line::ClampedAnswer;
 use line::Point;
@@ -11,13 +12,14 @@ use scales::Scales;
 
 mod encode;
 
-// Encodes a line of values to points, and counts the values that were cut. No byte is written before every value is seen to be
-// a number. Refused: 9, then 13, then 12.
-pub fn encode_line(layout: Layout, values: &[f32], out: &mut [u8]) -> ClampedAnswer
+// Encodes a line of values to points of their own, and counts the values that were cut. No byte is written before every value is
+// seen to be a number.
+fn encode_points(layout: Layout, values: &[f32], out: &mut [u8]) -> ClampedAnswer
+    requires { ⌜ grouped layout ≡ false ⌝ }
     ensures answer { λ r. ⌜ r ≡ encodeAnswer layout (now (values .entry)) (length (now (out .entry))) ⌝ }
     ensures memory { λ _. ⌜ now (out .exit) ≡ encodeOutput layout (now (values .entry)) (now (out .entry)) ⌝ }
 {
-    let LayoutScales::Known(scales) = Scales::of(layout) else {
+    let LayoutScales::Known(scales) = Scales::of_points(layout) else {
         return ClampedAnswer::Refused(refusal::OUTSIDE);
     };
     let size = layout.bytes as usize;
@@ -32,11 +34,27 @@ pub fn encode_line(layout: Layout, values: &[f32], out: &mut [u8]) -> ClampedAns
     ClampedAnswer::Points(n, line::cuts_told(cuts))
 }
 
-// Encodes one point, as a line of one point is. Refused: 9, then 13, then 12.
-pub fn encode_point(layout: Layout, point: Point, out: &mut [u8]) -> ClampedAnswer
-    ensures answer { λ r. ⌜ r ≡ encodeAnswer layout (pointValues point) (length (now (out .entry))) ⌝ }
-    ensures memory { λ _. ⌜ now (out .exit) ≡ encodeOutput layout (pointValues point) (now (out .entry)) ⌝ }
+// Encodes a line of values, three a point, to points or groups, and counts the values that were cut. Refused: 9, then 16, then
+// 13, then 12.
+pub fn encode_line(layout: Layout, values: &[f32], out: &mut [u8]) -> ClampedAnswer
+    ensures answer { λ r. ⌜ r ≡ encodeAnswer layout (now (values .entry)) (length (now (out .entry))) ⌝ }
+    ensures memory { λ _. ⌜ now (out .exit) ≡ encodeOutput layout (now (values .entry)) (now (out .entry)) ⌝ }
 {
+    if layout.grouped() {
+        group_encoding::encode_groups(layout, values, out)
+    } else {
+        encode_points(layout, values, out)
+    }
+}
+
+// Encodes one point, as a line of one point is; a group has no single point. Refused: 9, then 13, then 12.
+pub fn encode_point(layout: Layout, point: Point, out: &mut [u8]) -> ClampedAnswer
+    ensures answer { λ r. ⌜ r ≡ encodePointAnswer layout point (length (now (out .entry))) ⌝ }
+    ensures memory { λ _. ⌜ now (out .exit) ≡ encodePointOutput layout point (now (out .entry)) ⌝ }
+{
+    if layout.grouped() {
+        return ClampedAnswer::Refused(refusal::OUTSIDE);
+    }
     let values = [point.channel0, point.channel1, point.channel2];
-    encode_line(layout, &values, out)
+    encode_points(layout, &values, out)
 }

@@ -4,8 +4,8 @@ use mathlib.Core.Bool.{true}
 use Prim.Native.Nat.{ℕ, zero, suc, _+_, _*_, _≤_, _<_}
 use native.Mathlib.Omega.{arith}
 use Rattle.layout.specs.declared.Layout.{Layout}
-use Rattle.layout.specs.Layout.{offsetOf, validLayout}
-use Rattle.layout.proofs.Facts.{valid-says}
+use Rattle.layout.specs.Layout.{offsetOf, validPoints}
+use Rattle.layout.proofs.Facts.{points-say}
 use Rattle.field.specs.Field.{fieldOf}
 
 -- the field of a channel: n bits at a bit of a byte, in one to three bytes of the point
@@ -19,9 +19,9 @@ pub record Placed (l : Layout) (channel : ℕ) : Type 0 where
   pub inside : fieldOf l channel .first + fieldOf l channel .count ≤ l .bytes
   pub whole : offsetOf l channel + l .depth ≤ 8 * l .bytes
 
-pub placed : (l : Layout) (channel : ℕ) → validLayout l ≡ true → Placed l channel
+pub placed : (l : Layout) (channel : ℕ) → validPoints l ≡ true → Placed l channel
 placed l channel ok =
-    let v = valid-says l ok in
+    let v = points-say l ok in
     let within : (k : ℕ) → offsetOf l k + l .depth ≤ 8 * l .bytes = inside l ok in
     let w = within channel in
     record {
@@ -35,7 +35,7 @@ placed l channel ok =
       whole = w;
     }
   where
-    inside : (l : Layout) → validLayout l ≡ true → (k : ℕ) → offsetOf l k + l .depth ≤ 8 * l .bytes
-    inside l ok zero = valid-says l ok .inside0
-    inside l ok (suc zero) = valid-says l ok .inside1
-    inside l ok (suc (suc k)) = valid-says l ok .inside2
+    inside : (l : Layout) → validPoints l ≡ true → (k : ℕ) → offsetOf l k + l .depth ≤ 8 * l .bytes
+    inside l ok zero = points-say l ok .inside0
+    inside l ok (suc zero) = points-say l ok .inside1
+    inside l ok (suc (suc k)) = points-say l ok .inside2

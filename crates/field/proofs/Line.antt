@@ -14,9 +14,9 @@ use Rattle.lists.specs.Bytes.{areBytes}
 use Rattle.lists.proofs.Every.{every-drop}
 use Rattle.lists.proofs.Tests.{and-left, and-right}
 use Rattle.layout.specs.declared.Layout.{Layout}
-use Rattle.layout.specs.Layout.{offsetOf, validLayout}
+use Rattle.layout.specs.Layout.{offsetOf, validPoints}
 use Rattle.line.specs.Point.{pointOf}
-use Rattle.line.specs.Line.{codeAt}
+use Rattle.line.specs.Line.{pointCode}
 use Rattle.line.proofs.Points.{point-inside, code-at}
 use Rattle.field.specs.declared.field.Field.{Field}
 use Rattle.field.specs.Field.{fieldOf, fieldCode}
@@ -26,9 +26,9 @@ use Rattle.field.proofs.Facts.{placed}
 use Rattle.field.proofs.Read.{read-is}
 
 -- of a line of bytes and a valid layout
-module _ (l : Layout) (s : List ℕ) (ok : validLayout l ≡ true) (bytes : areBytes s ≡ true) where
+module _ (l : Layout) (s : List ℕ) (ok : validPoints l ≡ true) (bytes : areBytes s ≡ true) where
   -- the bytes of field j of point i hold code 3 i + j
-  code-in : (i j : ℕ) → j < 3 → fieldCode (fieldOf l j) (take (fieldOf l j .count) (drop (i * l .bytes + fieldOf l j .first) s)) ≡ codeAt l s (3 * i + j)
+  code-in : (i j : ℕ) → j < 3 → fieldCode (fieldOf l j) (take (fieldOf l j .count) (drop (i * l .bytes + fieldOf l j .first) s)) ≡ pointCode l s (3 * i + j)
   unfolding pointOf
   code-in i j h =
       let p = placed l j ok in
@@ -41,7 +41,7 @@ module _ (l : Layout) (s : List ℕ) (ok : validLayout l ≡ true) (bytes : areB
       ∙ code-at l s i j h
 
   -- and that is what is read there
-  pub code-read : (i j at : ℕ) → j < 3 → at ≡ i * l .bytes → at + l .bytes ≤ length s → readAt l s at j ≡ codeAt l s (3 * i + j)
+  pub code-read : (i j at : ℕ) → j < 3 → at ≡ i * l .bytes → at + l .bytes ≤ length s → readAt l s at j ≡ pointCode l s (3 * i + j)
   code-read i j at h e fits =
       let p = placed l j ok in
       let f = fieldOf l j in
@@ -50,7 +50,7 @@ module _ (l : Layout) (s : List ℕ) (ok : validLayout l ≡ true) (bytes : areB
       read-is l j (take (f .count) part) ok count ∙ ap (λ (a : ℕ). fieldCode f (take (f .count) (drop (a + f .first) s))) e ∙ code-in i j h
 
 -- where as many bytes hold each of the three fields, the count of the first does for all
-module _ (l : Layout) (ok : validLayout l ≡ true) (one : oneCount l ≡ true) {f f₀ : Field} (j at : ℕ) (h : j < 3) (e : f ≡ fieldOf l j) (e₀ : f₀ ≡ fieldOf l 0) where
+module _ (l : Layout) (ok : validPoints l ≡ true) (one : oneCount l ≡ true) {f f₀ : Field} (j at : ℕ) (h : j < 3) (e : f ≡ fieldOf l j) (e₀ : f₀ ≡ fieldOf l 0) where
   same-count : (k : ℕ) → k < 3 → fieldOf l k .count ≡ fieldOf l 0 .count
   same-count zero p = refl
   same-count (suc zero) p = eqb-true _ _ (and-left (eqb (fieldOf l 1 .count) (fieldOf l 0 .count)) (eqb (fieldOf l 2 .count) (fieldOf l 0 .count)) one)
@@ -69,7 +69,7 @@ module _ (l : Layout) (ok : validLayout l ≡ true) (one : oneCount l ≡ true) 
   read-here s = ap₂ (λ (g : Field) (c : ℕ). readCode g (take c (drop (at + g .first) s))) e count-is
 
 -- a line of n points, point by point
-module _ (l : Layout) (ok : validLayout l ≡ true) (n long : ℕ) (whole : long ≡ l .bytes * n) where
+module _ (l : Layout) (ok : validPoints l ≡ true) (n long : ℕ) (whole : long ≡ l .bytes * n) where
   -- point i lies within it
   pub point-reaches : (i at : ℕ) → i < n → at ≡ i * l .bytes → at + l .bytes ≤ long
   point-reaches i at h e = omega (arith, point-inside i n (l .bytes) h, mul-comm (l .bytes) n, whole, e)
@@ -82,7 +82,7 @@ module _ (l : Layout) (ok : validLayout l ≡ true) (n long : ℕ) (whole : long
 
   -- whose code is read there
   pub field-read : (s : List ℕ) {f : Field} (j i at : ℕ) → length s ≡ long → areBytes s ≡ true → f ≡ fieldOf l j → j < 3 → i < n → at ≡ i * l .bytes + f .first
-      → readCode f (take (f .count) (drop at s)) ≡ codeAt l s (3 * i + j)
+      → readCode f (take (f .count) (drop at s)) ≡ pointCode l s (3 * i + j)
   field-read s {f} j i at es are e hj hi q =
       ap (λ (a : ℕ). readCode f (take (f .count) (drop a s))) q
       ∙ ap (λ (g : Field). readCode g (take (g .count) (drop (i * l .bytes + g .first) s))) e

@@ -12,7 +12,7 @@ use lib.Seq.{take-all}
 use Rattle.lists.specs.Bytes.{little}
 use Rattle.lists.proofs.Tests.{stop, pass}
 use Rattle.layout.specs.declared.Layout.{Layout}
-use Rattle.layout.specs.Layout.{validLayout}
+use Rattle.layout.specs.Layout.{validPoints}
 use Rattle.line.specs.Point.{bits}
 use Rattle.field.specs.declared.field.Field.{Field}
 use Rattle.field.specs.Field.{fieldOf, fieldCode}
@@ -48,7 +48,7 @@ module _ (f : Field) where
   read-three (x ∷ y ∷ z ∷ bs) a b c = sym (pass _ (ne-eqb (length (x ∷ y ∷ z ∷ bs)) 1 b) (ap (bits (f .bits % 16) (f .from % 32)) (omega arith)))
 
 -- in a layout's field a single byte is a whole field, and three are all that there are
-pub read-is : (l : Layout) (channel : ℕ) (bs : List ℕ) → validLayout l ≡ true → length bs ≡ fieldOf l channel .count → readCode (fieldOf l channel) bs ≡ fieldCode (fieldOf l channel) bs
+pub read-is : (l : Layout) (channel : ℕ) (bs : List ℕ) → validPoints l ≡ true → length bs ≡ fieldOf l channel .count → readCode (fieldOf l channel) bs ≡ fieldCode (fieldOf l channel) bs
 unfolding readCode
 read-is l channel bs ok e = go (eqb (length bs) 1) refl
   where

@@ -5,7 +5,7 @@ use mathlib.Core.List.{List}
 use lib.Dec.{eqb}
 use lib.ListN.{length}
 use Rattle.layout.specs.declared.Layout.{Layout}
-use Rattle.layout.specs.Layout.{channelKnown, validLayout}
+use Rattle.layout.specs.Layout.{channelKnown, validPoints}
 use Rattle.refusal.specs.Refusal.{outside, wrongLineOrOutput}
 use Rattle.field.specs.declared.FieldCode.{FieldCode}
 use Rattle.field.specs.declared.FieldCode.the-variants.{Code, Refused as NoCode}
@@ -13,9 +13,9 @@ use Rattle.field.specs.declared.FieldBytes.{FieldBytes}
 use Rattle.field.specs.declared.FieldBytes.the-variants.{Held, Refused as NoBytes}
 use Rattle.field.specs.Field.{fieldOf, fieldCode}
 
--- the paper has the layout, and a layout such a channel
+-- the paper has the layout, of points of their own (a group has no field of one point: A6), and a layout such a channel
 abbrev pub fieldKnown : Layout → ℕ → Bool
-fieldKnown l channel = validLayout l && channelKnown channel
+fieldKnown l channel = validPoints l && channelKnown channel
 
 -- the code of a channel in just the bytes of its field
 unfoldable pub codeAnswer : Layout → ℕ → List ℕ → FieldCode

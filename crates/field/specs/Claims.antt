@@ -7,13 +7,14 @@ use lib.Dec.{eqb}
 use lib.ListN.{length, take, drop}
 use Rattle.lists.specs.Bytes.{areBytes, little}
 use Rattle.layout.specs.declared.Layout.{Layout}
-use Rattle.layout.specs.Layout.{topOf, offsetOf}
-use Rattle.refusal.specs.Refusal.{wrongLineOrOutput}
+use Rattle.layout.specs.Layout.{topOf, offsetOf, grouped}
+use Rattle.refusal.specs.Refusal.{outside, wrongLineOrOutput}
 use Rattle.line.specs.Point.{bits}
 use Rattle.line.specs.Line.{codeAt, PackedLine}
 use Rattle.field.specs.declared.FieldCode.the-variants.{Code, Refused}
 use Rattle.field.specs.Field.{fieldOf, fieldBytes}
-use Rattle.field.specs.Answer.{fieldKnown, codeAnswer}
+use Rattle.field.specs.declared.FieldBytes.the-variants.{Refused as NoBytes}
+use Rattle.field.specs.Answer.{fieldKnown, codeAnswer, bytesAnswer}
 
 -- one to three bytes hold a field, all of them in the point
 abbrev pub HoldsInOneToThreeBytes : Type 0
@@ -36,10 +37,10 @@ ReadsTheFieldOfThePoint =
     (l : Layout) (channel : ℕ) (point : List ℕ) → fieldKnown l channel ≡ true → areBytes point ≡ true → length point ≡ l .bytes
     → codeAnswer l channel (fieldBytes (fieldOf l channel) point) ≡ Code (bits (l .depth) (offsetOf l channel) (little point))
 
--- so the code of a line at a point and a channel is the answer for that point's bytes of the field
+-- so the code of a line of points of their own at a point and a channel is the answer for that point's bytes of the field
 abbrev pub ReadsEachCodeOfALine : Type 0
 ReadsEachCodeOfALine =
-    (l : Layout) (n : ℕ) (s : List ℕ) → PackedLine l n s → (i channel : ℕ) → i < n → channel < 3
+    (l : Layout) (n : ℕ) (s : List ℕ) → PackedLine l n s → grouped l ≡ false → (i channel : ℕ) → i < n → channel < 3
     → let point = take (l .bytes) (drop (i * l .bytes) s) in
     codeAnswer l channel (fieldBytes (fieldOf l channel) point) ≡ Code (codeAt l s (3 * i + channel))
 
@@ -52,3 +53,7 @@ RefusesOtherLengths =
 -- and no code that is answered is above the highest of n bits
 abbrev pub ReadsCodesOfTheDepth : Type 0
 ReadsCodesOfTheDepth = (l : Layout) (channel c : ℕ) (bytes : List ℕ) → codeAnswer l channel bytes ≡ Code c → c ≤ topOf (l .depth)
+
+-- of groups every question is refused by 9 (A6)
+abbrev pub RefusesGroups : Type 0
+RefusesGroups = (l : Layout) (channel : ℕ) (bytes : List ℕ) → grouped l ≡ true → (codeAnswer l channel bytes ≡ Refused outside) × (bytesAnswer l channel ≡ NoBytes outside)

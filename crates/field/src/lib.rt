@@ -20,14 +20,14 @@ pub enum FieldBytes {
     Refused(u8),
 }
 
-// Whether the paper has the layout, and the layout such a channel.
+// Whether the paper has the layout, of points of their own, and the layout such a channel.
 fn known(layout: Layout, channel: u8) -> bool
     ensures { λ r. ⌜ r ≡ fieldKnown layout channel ⌝ }
 {
-    layout.valid() & layout::channel_known(channel)
+    layout.valid_points() & layout::channel_known(channel)
 }
 
-// The code of a channel, in just the bytes that hold its field. Refused: 9, then 13.
+// The code of a channel, in just the bytes that hold its field. A group has no field of one point. Refused: 9, then 13.
 pub fn field_code(layout: Layout, channel: u8, bytes: &[u8]) -> FieldCode
     ensures { λ r. ⌜ r ≡ codeAnswer layout channel (now (bytes .entry)) ⌝ }
 {

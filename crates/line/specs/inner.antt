@@ -1,2 +1,4 @@
 pub mod Channels
 pub mod Cuts
+pub mod Groups
+pub mod Points

@@ -10,7 +10,7 @@ use lib.ListN.{length, length-append, getD}
 use Rattle.lists.proofs.Tests.{and-left, and-right, and3, pass, stop}
 use Rattle.layout.specs.Layout.{validLayout}
 use Rattle.card_table.specs.declared.facts.Facts.{Facts}
-use Rattle.card_table.specs.Facts.{largestSide, sideKnown, accessKnown, factsValid}
+use Rattle.card_table.specs.Facts.{largestSide, sideKnown, accessKnown, factsValid, oddWidth}
 use Rattle.card_table.specs.Edition.{newest, editionKnown, leastEdition}
 use Rattle.card_table.specs.Table.{cardSize}
 use Rattle.card_reader.specs.declared.CardReading.{CardReading}
@@ -65,9 +65,7 @@ front-valid : (b : List ℕ) (f : Facts) → frontRight b f ≡ true → factsVa
 unfolding frontRight
 front-valid b f h =
     let a = eqb (getD b 0 0) (leastEdition f) && leb (getD b 0 0) (writerOf b) in
-    let s = eqb (getD b 7 0) 0 in
-    let e = eqb (getD b 11 0) 0 in
-    and-right a (factsValid f) (and-left (a && factsValid f) s (and-left (a && factsValid f && s) e h))
+    and-right a (factsValid f) (and-left (a && factsValid f) (eqb (getD b 11 0) 0) h)
 
 -- ---- a card's line
 
@@ -79,12 +77,12 @@ pub refused-line : (b : List ℕ) (n : ℕ) → readCard b newest ≡ Refused n 
 unfolding cardLine
 refused-line b n h = ap readingLine (sym h)
 
--- a row's number is small, and so is the next row's
-small : (t : Bool) (k n : ℕ) {rest : CardReading} → k < 16 → (rest ≡ Refused n → n < 16) → cond t (Refused k) rest ≡ Refused n → n < 16
+-- a row's number has at most two digits, and so has the next row's
+small : (t : Bool) (k n : ℕ) {rest : CardReading} → k < 100 → (rest ≡ Refused n → n < 100) → cond t (Refused k) rest ≡ Refused n → n < 100
 small true k n h r e = let z : k ≡ n = cc in omega arith
 small false k n h r e = r e
 
-refused-small : (b : List ℕ) (e n : ℕ) → readCard b e ≡ Refused n → n < 16
+refused-small : (b : List ℕ) (e n : ℕ) → readCard b e ≡ Refused n → n < 100
 unfolding readCard
 refused-small b e n =
     small (not (eqb (length b) cardSize)) 1 n (lit< tt)
@@ -92,8 +90,9 @@ refused-small b e n =
     (small (eqb (getD b 0 0) 0) 9 n (lit< tt)
     (small (ltb e (getD b 0 0)) 8 n (lit< tt)
     (small (not (frontRight b (factsIn b e))) 9 n (lit< tt)
+    (small (oddWidth (factsIn b e)) 16 n (lit< tt)
     (small (accessUnknown (writerOf b) (getD b 24 0) e) 10 n (lit< tt)
-    (small (endWrong b e) 9 n (lit< tt) (λ h. let z : _≡_ {A = ℕ} 0 1 = cc in absurd (omega arith))))))))
+    (small (endWrong b e) 9 n (lit< tt) (λ h. let z : _≡_ {A = ℕ} 0 1 = cc in absurd (omega arith)))))))))
 
 longest : (b : List ℕ) (r : CardReading) → readCard b newest ≡ r → length (readingLine r) ≤ 41
 longest b (Shown f) h =

@@ -24,7 +24,7 @@ pub const WRONG_SAMPLE: u8 = 5;
 // The lower and upper numbers of the samples state no one range.
 pub const NO_RANGE: u8 = 6;
 
-// The edition asked is not 1 to 3.
+// The edition asked is not 1 to 4.
 pub const UNKNOWN_EDITION: u8 = 7;
 
 // The card's byte 0 is above the edition asked.
@@ -42,7 +42,7 @@ pub const UNWRITABLE: u8 = 11;
 // A float is not a number.
 pub const NOT_A_NUMBER: u8 = 12;
 
-// A line is not of whole points or of over 4,096, or an output is not exactly as long as needed.
+// A line is not of whole points or groups or of over 4,096 points, or an output is not exactly as long as needed.
 pub const WRONG_LINE_OR_OUTPUT: u8 = 13;
 
 // A code is above 2^n - 1.
@@ -50,3 +50,6 @@ pub const CODE_TOO_HIGH: u8 = 14;
 
 // No card that the edition reads has the item.
 pub const NO_ITEM: u8 = 15;
+
+// An odd width, or an odd count of whole points to encode or pack, where two points make a group.
+pub const ODD_COUNT: u8 = 16;

@@ -1,5 +1,5 @@
 -- The scales that the code makes, by the depth's step, and those of a layout. Assumes nothing.
-use mathlib.Core.Path.{_≡_, refl, sym, ap, _∙_, subst}
+use mathlib.Core.Path.{_≡_, refl, sym, ap, subst}
 use mathlib.Core.Bool.{Bool, true, false, cond, _&&_, true≢false}
 use Prim.Native.Nat.{ℕ, _+_, _-_, _*_, _/_, _^_, _≤_}
 use native.Mathlib.Omega.{arith}
@@ -98,26 +98,15 @@ fine-at l j sc ok e = let v = valid-says l ok in subst Fine (sym e) (fine (range
 
 -- ---- the scales of a layout
 module _ (l : Layout) where
-  pub no-scales : validLayout l ≡ false → Unknown ≡ knownScales l
-  no-scales e = sym (ap (λ (t : Bool). cond t (Known (scalesOf l)) Unknown) e)
-
-  pub scales-are : {r : Range} {bits : ℕ} → validLayout l ≡ true → r ≡ rangeOf (l .range) → bits ≡ l .depth
-      → Known (record { channel0 = scaleOf r bits (kindOf (l .model) 0); channel1 = scaleOf r bits (kindOf (l .model) 1); channel2 = scaleOf r bits (kindOf (l .model) 2) }) ≡ knownScales l
-  scales-are ok e f =
-      (λ i. Known (record { channel0 = scaleOf (e i) (f i) (kindOf (l .model) 0); channel1 = scaleOf (e i) (f i) (kindOf (l .model) 1); channel2 = scaleOf (e i) (f i) (kindOf (l .model) 2) }))
-      ∙ sym (ap (λ (t : Bool). cond t (Known (scalesOf l)) Unknown) ok)
+  pub scales-are : {r : Range} {bits : ℕ} → r ≡ rangeOf (l .range) → bits ≡ l .depth
+      → Known (record { channel0 = scaleOf r bits (kindOf (l .model) 0); channel1 = scaleOf r bits (kindOf (l .model) 1); channel2 = scaleOf r bits (kindOf (l .model) 2) }) ≡ Known (scalesOf l)
+  scales-are e f i = Known (record { channel0 = scaleOf (e i) (f i) (kindOf (l .model) 0); channel1 = scaleOf (e i) (f i) (kindOf (l .model) 1); channel2 = scaleOf (e i) (f i) (kindOf (l .model) 2) })
 
   -- and for who asked
-  pub scales-told : {s : Scales} → knownScales l ≡ Known s → (validLayout l ≡ true) × Fitted l s
-  scales-told {s} e = go (validLayout l) e
-    where
-      go : (t : Bool) → cond t (Known (scalesOf l)) Unknown ≡ Known s → (t ≡ true) × Fitted l s
-      go true e = let f : s ≡ scalesOf l = cc in (refl, record { fitted0 = ap (λ (x : Scales). x .channel0) f; fitted1 = ap (λ (x : Scales). x .channel1) f; fitted2 = ap (λ (x : Scales). x .channel2) f })
-      go false e = let z : _≡_ {A = ℕ} 0 1 = cc in absurd (omega arith)
+  pub scales-told : (valid : Bool) {s : Scales} → knownScales valid l ≡ Known s → (valid ≡ true) × Fitted l s
+  scales-told true {s} e = let f : s ≡ scalesOf l = cc in (refl, record { fitted0 = ap (λ (x : Scales). x .channel0) f; fitted1 = ap (λ (x : Scales). x .channel1) f; fitted2 = ap (λ (x : Scales). x .channel2) f })
+  scales-told false e = let z : _≡_ {A = ℕ} 0 1 = cc in absurd (omega arith)
 
-  pub scales-unknown : knownScales l ≡ Unknown → validLayout l ≡ false
-  scales-unknown e = go (validLayout l) e
-    where
-      go : (t : Bool) → cond t (Known (scalesOf l)) Unknown ≡ Unknown → t ≡ false
-      go true e = let z : _≡_ {A = ℕ} 0 1 = cc in absurd (omega arith)
-      go false e = refl
+  pub scales-unknown : (valid : Bool) → knownScales valid l ≡ Unknown → valid ≡ false
+  scales-unknown true e = let z : _≡_ {A = ℕ} 0 1 = cc in absurd (omega arith)
+  scales-unknown false e = refl

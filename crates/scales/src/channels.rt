@@ -1,5 +1,6 @@
 // The scales of a layout's three channels, worked out once for a line.
 ghost use mathlib.Core.Path.{_≡_};
+ghost use Rattle.layout.specs.Layout.{validPoints, validGroups};
 ghost use Rattle.scales.specs.Scales.{knownScales};
 use crate::scale::Scale;
 use layout::Depth;
@@ -15,19 +16,19 @@ pub struct Scales {
     pub channel2: Scale,
 }
 
-// The scales of a layout, or that the paper has no such layout.
+// The scales of a layout, or that there is no such layout.
 pub enum LayoutScales {
     Known(Scales),
     Unknown,
 }
 
 impl Scales {
-    // The scales of a layout's three channels. The layout is tested here, so that an entry tests it once. (A valid layout's
-    // range and depth are known: the other two arms are never taken.)
-    pub fn of(layout: Layout) -> LayoutScales
-        ensures { λ r. ⌜ r ≡ knownScales layout ⌝ }
+    // The scales of a layout of points of their own. It is tested here, so that an entry tests it once. (A valid layout's range
+    // and depth are known: the other two arms are never taken.)
+    pub fn of_points(layout: Layout) -> LayoutScales
+        ensures { λ r. ⌜ r ≡ knownScales (validPoints layout) layout ⌝ }
     {
-        if !layout.valid() {
+        if !layout.valid_points() {
             return LayoutScales::Unknown;
         }
         let KnownRange::Known(range) = Range::of(layout.range) else {
@@ -44,6 +45,25 @@ impl Scales {
             channel0,
             channel1,
             channel2,
+        })
+    }
+
+    // And of a layout of groups, which is tested here too: Y', Cb and Cr of 8 bits.
+    pub fn of_groups(layout: Layout) -> LayoutScales
+        ensures { λ r. ⌜ r ≡ knownScales (validGroups layout) layout ⌝ }
+    {
+        if !layout.valid_groups() {
+            return LayoutScales::Unknown;
+        }
+        let KnownRange::Known(range) = Range::of(layout.range) else {
+            return LayoutScales::Unknown;
+        };
+        let brightness = Scale::of(range, Depth::Eight, Kind::Brightness);
+        let difference = Scale::of(range, Depth::Eight, Kind::Difference);
+        LayoutScales::Known(Scales {
+            channel0: brightness,
+            channel1: difference,
+            channel2: difference,
         })
     }
 }

@@ -17,22 +17,24 @@ use Rattle.lists.proofs.Bytes.{pow-256, little-bytesOf, getD-bytesOf, length-by
 use Rattle.lists.proofs.Every.{every-of}
 use Rattle.lists.proofs.Lists.{length-tabulate, getD-tabulate, is-tabulate}
 use Rattle.layout.specs.declared.Layout.{Layout}
-use Rattle.layout.specs.Layout.{validLayout, offsetOf}
-use Rattle.layout.proofs.Facts.{Valid, valid-says}
+use Rattle.layout.specs.Layout.{validPoints, offsetOf}
+use Rattle.layout.proofs.Facts.{Points as PointFacts, points-say}
 use Rattle.line.specs.Point.{bits, pointOf, inPlace}
-use Rattle.line.specs.Line.{joined, codeAt, codesOf, byteAt, packedOf, CodeLine}
+use Rattle.line.specs.Line.{joined, pointCode, pointByte}
+use Rattle.line.specs.inner.Points.{pointCodes, pointsPacked}
+use Rattle.scanline_laws.proofs.Points.{CodePoints}
 use Rattle.line.proofs.Joins.{or-sum}
 use Rattle.line.proofs.Points.{code-lt, byte-at, point-inside}
 use Rattle.scanline_laws.proofs.Bits.{own, other, turned, bits-or3}
 use Rattle.scanline_laws.proofs.Cleared.{part-length}
 
 -- three codes in their places: each field holds its code, and the number has no more bits than the point
-module _ (l : Layout) (ok : validLayout l ≡ true) (a b c : ℕ) (ha : a < 2 ^ l .depth) (hb : b < 2 ^ l .depth) (hc : c < 2 ^ l .depth) where
+module _ (l : Layout) (ok : validPoints l ≡ true) (a b c : ℕ) (ha : a < 2 ^ l .depth) (hb : b < 2 ^ l .depth) (hc : c < 2 ^ l .depth) where
   abbrev m : ℕ
   m = l .depth
 
-  abbrev r : Valid l
-  r = valid-says l ok
+  abbrev r : PointFacts l
+  r = points-say l ok
 
   field0 : bits m (l .offset0) (inPlace l a b c) ≡ a
   field0 =
@@ -60,7 +62,7 @@ module _ (l : Layout) (ok : validLayout l ≡ true) (a b c : ℕ) (ha : a < 2 ^ 
       (subst (λ (t : ℕ). t < 2 ^ w) (or-sum l ok a b c ha hb hc)
       (or-lt w _ _ (each (l .offset0) a ha (r .inside0)) (or-lt w _ _ (each (l .offset1) b hb (r .inside1)) (each (l .offset2) c hc (r .inside2)))))
 
-module _ (l : Layout) (n : ℕ) (cs : List ℕ) (p : CodeLine l n cs) where
+module _ (l : Layout) (n : ℕ) (cs : List ℕ) (p : CodePoints l n cs) where
   small : (i j : ℕ) → j < 3 → i < n → getD cs (3 * i + j) 0 < 2 ^ l .depth
   small i j h k = code-lt l cs (3 * i + j) (p .codes) (omega (arith, p .points))
 
@@ -82,44 +84,42 @@ module _ (l : Layout) (n : ℕ) (cs : List ℕ) (p : CodeLine l n cs) where
   third : length cs / 3 ≡ n
   third = omega (arith, p .points)
 
-  pub length-packed : length (packedOf l cs) ≡ l .bytes * n
-  unfolding packedOf
-  length-packed = length-tabulate (l .bytes * (length cs / 3)) (byteAt l cs) ∙ ap (λ (t : ℕ). l .bytes * t) third
+  pub length-packed : length (pointsPacked l cs) ≡ l .bytes * n
+  length-packed = length-tabulate (l .bytes * (length cs / 3)) (pointByte l cs) ∙ ap (λ (t : ℕ). l .bytes * t) third
 
-  packed-at : (k : ℕ) → k < l .bytes * n → getD (packedOf l cs) k 0 ≡ byteAt l cs k
-  unfolding packedOf
-  packed-at k h = getD-tabulate (l .bytes * (length cs / 3)) (byteAt l cs) k 0 (subst (λ (t : ℕ). k < l .bytes * t) (sym third) h)
+  packed-at : (k : ℕ) → k < l .bytes * n → getD (pointsPacked l cs) k 0 ≡ pointByte l cs k
+  packed-at k h = getD-tabulate (l .bytes * (length cs / 3)) (pointByte l cs) k 0 (subst (λ (t : ℕ). k < l .bytes * t) (sym third) h)
 
-  pub packed-bytes : areBytes (packedOf l cs) ≡ true
-  unfolding byteAt
-  packed-bytes = every-of (λ b. ltb b 256) 0 (packedOf l cs) (λ k h.
+  pub packed-bytes : areBytes (pointsPacked l cs) ≡ true
+  unfolding pointByte
+  packed-bytes = every-of (λ b. ltb b 256) 0 (pointsPacked l cs) (λ k h.
       let e = packed-at k (omega (arith, length-packed)) in
-      lt-ltb (getD (packedOf l cs) k 0) 256 (omega (arith, e)))
+      lt-ltb (getD (pointsPacked l cs) k 0) 256 (omega (arith, e)))
 
   -- point i of the packed line
-  point-is : (i : ℕ) → i < n → pointOf l (packedOf l cs) i ≡ joined l cs i
+  point-is : (i : ℕ) → i < n → pointOf l (pointsPacked l cs) i ≡ joined l cs i
   unfolding pointOf
   point-is i k =
       let b : ℕ = l .bytes in
       let v : ℕ = joined l cs i in
-      let part : List ℕ = take b (drop (i * b) (packedOf l cs)) in
+      let part : List ℕ = take b (drop (i * b) (pointsPacked l cs)) in
       let inside : i * b + b ≤ b * n = omega (arith, point-inside i n b k, mul-comm b n) in
-      let len : length part ≡ b = part-length (packedOf l cs) (i * b) b (omega (arith, length-packed)) in
+      let len : length part ≡ b = part-length (pointsPacked l cs) (i * b) b (omega (arith, length-packed)) in
       let same : part ≡ bytesOf v b =
       ext-getD 0 part (bytesOf v b) (len ∙ sym (length-bytesOf v b))
       (λ j h. let q : j < b = omega arith in
-      getD-take b (drop (i * b) (packedOf l cs)) j 0 q ∙ getD-drop (i * b) (packedOf l cs) j 0 ∙ packed-at (i * b + j) (omega arith)
-      ∙ ap (byteAt l cs) (ap (λ (t : ℕ). t + j) (mul-comm i b)) ∙ sym (byte-at l cs i j q) ∙ sym (getD-bytesOf v b j q)) in
+      getD-take b (drop (i * b) (pointsPacked l cs)) j 0 q ∙ getD-drop (i * b) (pointsPacked l cs) j 0 ∙ packed-at (i * b + j) (omega arith)
+      ∙ ap (pointByte l cs) (ap (λ (t : ℕ). t + j) (mul-comm i b)) ∙ sym (byte-at l cs i j q) ∙ sym (getD-bytesOf v b j q)) in
       ap little same ∙ little-bytesOf v b (joined-lt i k)
 
-  pub unpack-pack : codesOf l (packedOf l cs) ≡ cs
-  unfolding codesOf codeAt
+  pub unpack-pack : pointCodes l (pointsPacked l cs) ≡ cs
+  unfolding pointCode
   unpack-pack =
-      let r : Valid l = valid-says l (p .valid) in
+      let r : PointFacts l = points-say l (p .valid) in
       let pos : 0 < l .bytes = omega (arith, r .bytes-least) in
-      let e : length (packedOf l cs) / l .bytes ≡ n = ap (λ (t : ℕ). t / l .bytes) (length-packed ∙ mul-comm (l .bytes) n) ∙ mul-div-cancel n pos in
-      ap (λ (t : ℕ). tabulate (3 * t) (codeAt l (packedOf l cs))) e
-      ∙ sym (is-tabulate 0 cs (3 * n) (codeAt l (packedOf l cs)) (p .points) (λ k h.
+      let e : length (pointsPacked l cs) / l .bytes ≡ n = ap (λ (t : ℕ). t / l .bytes) (length-packed ∙ mul-comm (l .bytes) n) ∙ mul-div-cancel n pos in
+      ap (λ (t : ℕ). tabulate (3 * t) (pointCode l (pointsPacked l cs))) e
+      ∙ sym (is-tabulate 0 cs (3 * n) (pointCode l (pointsPacked l cs)) (p .points) (λ k h.
       let hi : k / 3 < n = omega arith in
       let e : k ≡ 3 * (k / 3) + k % 3 = omega arith in
       ap (λ (t : ℕ). getD cs t 0) e ∙ sym (joined-field (k / 3) (k % 3) hi (omega arith)) ∙ ap (bits (l .depth) (offsetOf l (k % 3))) (sym (point-is (k / 3) hi))))

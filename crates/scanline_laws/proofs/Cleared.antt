@@ -18,40 +18,40 @@ use Rattle.lists.proofs.Every.{every-at, every-of}
 use Rattle.lists.proofs.Lists.{length-tabulate, getD-tabulate, tabulate-same}
 use Rattle.layout.specs.declared.Layout.{Layout}
 use Rattle.layout.specs.Layout.{topOf, offsetOf}
-use Rattle.layout.proofs.Facts.{Valid, valid-says}
+use Rattle.layout.proofs.Facts.{Points as PointFacts, points-say}
 use Rattle.line.specs.Point.{bits, pointOf, inPlace}
-use Rattle.line.specs.Line.{joined, codeAt, codesOf, byteAt, packedOf, codesWithin, PackedLine}
+use Rattle.line.specs.Line.{joined, pointCode, pointByte, codesWithin}
+use Rattle.line.specs.inner.Points.{pointCodes, pointsPacked}
+use Rattle.scanline_laws.proofs.Points.{PackedPoints, used-fields}
 use Rattle.line.proofs.Joins.{and-or, or-sum}
 use Rattle.line.proofs.Points.{point-count, code-at, point-inside}
-use Rattle.scanline_laws.specs.Cleared.{usedBits, cleared}
+use Rattle.scanline_laws.specs.Cleared.{fieldBits, usedBits, cleared}
 use Rattle.scanline_laws.proofs.Bits.{byte-and, field-ones}
 
 -- k elements from index o on
 pub part-length : (s : List ℕ) (o k : ℕ) → o + k ≤ length s → length (take k (drop o s)) ≡ k
 part-length s o k h = length-take-le k (drop o s) (rw (length-drop o s) (omega arith))
 
-module _ (l : Layout) (n : ℕ) (s : List ℕ) (p : PackedLine l n s) where
+module _ (l : Layout) (n : ℕ) (s : List ℕ) (p : PackedPoints l n s) where
   abbrev b : ℕ
   b = l .bytes
 
   pub bytes-pos : 0 < b
-  bytes-pos = let r : Valid l = valid-says l (p .valid) in omega (arith, r .bytes-least)
+  bytes-pos = let r : PointFacts l = points-say l (p .valid) in omega (arith, r .bytes-least)
 
   count : length s / b ≡ n
   count = point-count l s n bytes-pos (p .points)
 
-  pub length-codes : length (codesOf l s) ≡ 3 * n
-  unfolding codesOf
-  length-codes = length-tabulate (3 * (length s / b)) (codeAt l s) ∙ ap (λ (m : ℕ). 3 * m) count
+  pub length-codes : length (pointCodes l s) ≡ 3 * n
+  length-codes = length-tabulate (3 * (length s / b)) (pointCode l s) ∙ ap (λ (m : ℕ). 3 * m) count
 
   -- code 3 i + j of the line's codes
-  code-is : (i j : ℕ) → j < 3 → i < n → getD (codesOf l s) (3 * i + j) 0 ≡ bits (l .depth) (offsetOf l j) (pointOf l s i)
-  unfolding codesOf
-  code-is i j h k = getD-tabulate (3 * (length s / b)) (codeAt l s) (3 * i + j) 0 (omega (arith, count)) ∙ sym (code-at l s i j h)
+  code-is : (i j : ℕ) → j < 3 → i < n → getD (pointCodes l s) (3 * i + j) 0 ≡ bits (l .depth) (offsetOf l j) (pointOf l s i)
+  code-is i j h k = getD-tabulate (3 * (length s / b)) (pointCode l s) (3 * i + j) 0 (omega (arith, count)) ∙ sym (code-at l s i j h)
 
   -- the three fields of v in their places are the `&` with the used bits
   fields-used : (v : ℕ) → inPlace l (bits (l .depth) (l .offset0) v) (bits (l .depth) (l .offset1) v) (bits (l .depth) (l .offset2) v) ≡ bitAnd v (usedBits l)
-  unfolding usedBits
+  unfolding fieldBits
   fields-used v =
       let m = l .depth in
       let lt : (o : ℕ) → bits m o v < 2 ^ m = λ o. mod-lt (v / 2 ^ o) (pow-pos m) in
@@ -64,13 +64,14 @@ module _ (l : Layout) (n : ℕ) (s : List ℕ) (p : PackedLine l n s) where
       ∙ ap (bitOr (bitAnd v (ones x))) (sym (and-or v (ones y) (ones z)))
       ∙ sym (and-or v (ones x) (bitOr (ones y) (ones z)))
       ∙ ap (bitAnd v) (or-sum l (p .valid) (2 ^ m - 1) (2 ^ m - 1) (2 ^ m - 1) (ones-lt m) (ones-lt m) (ones-lt m))
+      ∙ ap (bitAnd v) (sym (used-fields l (p .valid)))
 
   -- point i, unpacked and joined
-  joined-is : (i : ℕ) → i < n → joined l (codesOf l s) i ≡ bitAnd (pointOf l s i) (usedBits l)
+  joined-is : (i : ℕ) → i < n → joined l (pointCodes l s) i ≡ bitAnd (pointOf l s i) (usedBits l)
   unfolding joined
   joined-is i k =
-      let first : getD (codesOf l s) (3 * i) 0 ≡ bits (l .depth) (l .offset0) (pointOf l s i) =
-      ap (λ (m : ℕ). getD (codesOf l s) m 0) (sym (add-zero (3 * i))) ∙ code-is i 0 (lit< tt) k in
+      let first : getD (pointCodes l s) (3 * i) 0 ≡ bits (l .depth) (l .offset0) (pointOf l s i) =
+      ap (λ (m : ℕ). getD (pointCodes l s) m 0) (sym (add-zero (3 * i))) ∙ code-is i 0 (lit< tt) k in
       (λ d. inPlace l (first d) (code-is i 1 (lit< tt) k d) (code-is i 2 (lit< tt) k d)) ∙ fields-used (pointOf l s i)
 
   -- byte j of point i
@@ -85,28 +86,28 @@ module _ (l : Layout) (n : ℕ) (s : List ℕ) (p : PackedLine l n s) where
       every-of (λ x. ltb x 256) 0 part (λ a q. let r : a < b = omega arith in let t : i * b + a < length s = omega arith in ap (λ (x : ℕ). ltb x 256) (at a r) ∙ every-at (λ x. ltb x 256) 0 s (i * b + a) (p .bytes) t) in
       sym (getD-bytesOf (little part) (length part) j (omega arith)) ∙ ap (λ (xs : List ℕ). getD xs j 0) (bytesOf-little part all) ∙ at j h
 
-  byte-is : (k : ℕ) → k < length s → byteAt l (codesOf l s) k ≡ bitAnd (getD s k 0) (byteOf (usedBits l) (k % b))
-  unfolding byteAt
+  byte-is : (k : ℕ) → k < length s → pointByte l (pointCodes l s) k ≡ bitAnd (getD s k 0) (byteOf (usedBits l) (k % b))
+  unfolding pointByte
   byte-is k h =
       let hi : k / b < n = div-lt-iff-lt-mul bytes-pos .1 (omega (arith, p .points, mul-comm b n)) in
       ap (λ (v : ℕ). byteOf v (k % b)) (joined-is (k / b) hi)
       ∙ byte-and (pointOf l s (k / b)) (usedBits l) (k % b)
       ∙ ap (λ (x : ℕ). bitAnd x (byteOf (usedBits l) (k % b))) (point-byte (k / b) (k % b) hi (mod-lt k bytes-pos) ∙ ap (λ (m : ℕ). getD s m 0) (div-add-mod' k b))
 
-  pub pack-unpack : packedOf l (codesOf l s) ≡ cleared l s
-  unfolding packedOf cleared
+  pub pack-unpack : pointsPacked l (pointCodes l s) ≡ cleared l s
+  unfolding cleared
   pack-unpack =
-      let e : length (codesOf l s) / 3 ≡ n = omega (arith, length-codes) in
-      ap (λ (m : ℕ). tabulate m (byteAt l (codesOf l s))) (ap (λ (m : ℕ). b * m) e ∙ sym (p .points))
-      ∙ tabulate-same 0 (length s) (byteAt l (codesOf l s)) (λ k. bitAnd (getD s k 0) (byteOf (usedBits l) (k % b))) byte-is
+      let e : length (pointCodes l s) / 3 ≡ n = omega (arith, length-codes) in
+      ap (λ (m : ℕ). tabulate m (pointByte l (pointCodes l s))) (ap (λ (m : ℕ). b * m) e ∙ sym (p .points))
+      ∙ tabulate-same 0 (length s) (pointByte l (pointCodes l s)) (λ k. bitAnd (getD s k 0) (byteOf (usedBits l) (k % b))) byte-is
 
-  pub codes-small : codesWithin (l .depth) (codesOf l s) ≡ true
-  codes-small = every-of (λ c. leb c (topOf (l .depth))) 0 (codesOf l s) (λ k h.
+  pub codes-small : codesWithin (l .depth) (pointCodes l s) ≡ true
+  codes-small = every-of (λ c. leb c (topOf (l .depth))) 0 (pointCodes l s) (λ k h.
       let i = k / 3 in
       let j = k % 3 in
       let e : k ≡ 3 * i + j = omega arith in
       let lt : i < n = omega (arith, length-codes) in
       let v = pointOf l s i in
       let o = offsetOf l j in
-      let c : getD (codesOf l s) k 0 ≡ bits (l .depth) o v = ap (λ (m : ℕ). getD (codesOf l s) m 0) e ∙ code-is i j (omega arith) lt in
-      le-leb (getD (codesOf l s) k 0) (topOf (l .depth)) (omega (arith, c, mod-lt (v / 2 ^ o) (pow-pos (l .depth)))))
+      let c : getD (pointCodes l s) k 0 ≡ bits (l .depth) o v = ap (λ (m : ℕ). getD (pointCodes l s) m 0) e ∙ code-is i j (omega arith) lt in
+      le-leb (getD (pointCodes l s) k 0) (topOf (l .depth)) (omega (arith, c, mod-lt (v / 2 ^ o) (pow-pos (l .depth)))))

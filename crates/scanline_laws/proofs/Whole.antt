@@ -18,10 +18,10 @@ use Rattle.lists.proofs.Every.{every-at}
 use Rattle.lists.proofs.Lists.{is-tabulate}
 use Rattle.lists.proofs.Tests.{or-cases}
 use Rattle.layout.specs.declared.Layout.{Layout}
-use Rattle.layout.specs.Layout.{validLayout, apart}
-use Rattle.layout.proofs.Facts.{Valid, valid-says}
-use Rattle.line.specs.Line.{PackedLine}
-use Rattle.scanline_laws.specs.Cleared.{usedBits, cleared}
+use Rattle.layout.specs.Layout.{validPoints, apart}
+use Rattle.layout.proofs.Facts.{Points as PointFacts, points-say}
+use Rattle.scanline_laws.proofs.Points.{PackedPoints, used-fields}
+use Rattle.scanline_laws.specs.Cleared.{fieldBits, usedBits, cleared}
 use Rattle.scanline_laws.proofs.Cleared.{bytes-pos}
 
 -- m ones at offset o, and the one below them that carries to o + m
@@ -67,19 +67,19 @@ whole m x y z t pos e hx hy hz (inr a) (inr b) (inr c) = omega (arith, chain m z
 sides : (a b m : ℕ) → apart a b m ≡ true → (a + m ≤ b) ⊎ (b + m ≤ a)
 sides a b m e = ⊎-elim (λ q. inl (leb-true (a + m) b q)) (λ q. inr (leb-true (b + m) a q)) (or-cases (leb (a + m) b) (leb (b + m) a) e)
 
-module _ (l : Layout) (ok : validLayout l ≡ true) (every-bit : 3 * l .depth ≡ 8 * l .bytes) where
+module _ (l : Layout) (ok : validPoints l ≡ true) (every-bit : 3 * l .depth ≡ 8 * l .bytes) where
   used-all : usedBits l + 1 ≡ 256 ^ l .bytes
-  unfolding usedBits
+  unfolding fieldBits
   used-all =
-      let r : Valid l = valid-says l ok in
+      let r : PointFacts l = points-say l ok in
       let m = l .depth in
       let x = l .offset0 in
       let y = l .offset1 in
       let z = l .offset2 in
-      whole m x y z (8 * l .bytes) (omega (arith, r .depth-least)) every-bit (r .inside0) (r .inside1) (r .inside2) (sides x y m (r .apart01)) (sides x z m (r .apart02)) (sides y z m (r .apart12))
+      ap (λ (u : ℕ). u + 1) (used-fields l ok) ∙ whole m x y z (8 * l .bytes) (omega (arith, r .depth-least)) every-bit (r .inside0) (r .inside1) (r .inside2) (sides x y m (r .apart01)) (sides x z m (r .apart02)) (sides y z m (r .apart12))
       ∙ sym (pow-256 (l .bytes))
 
-  pub cleared-same : (n : ℕ) (s : List ℕ) → PackedLine l n s → cleared l s ≡ s
+  pub cleared-same : (n : ℕ) (s : List ℕ) → PackedPoints l n s → cleared l s ≡ s
   unfolding cleared
   cleared-same n s p =
       let b = l .bytes in

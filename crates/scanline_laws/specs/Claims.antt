@@ -1,29 +1,79 @@
 -- What is claimed of lines, of the definitions that the contracts of `unpack_line`, `pack_line` and `encode_line` cite. proofs/Claims.antt proves each. Assumes nothing.
-use Prim.Native.Nat.{ℕ, _*_, _≤_}
-use mathlib.Core.Bool.{true}
+use Prim.Native.Nat.{ℕ, _+_, _-_, _*_, _%_, _≤_, _<_}
+use mathlib.Core.Bool.{Bool, true, false, _||_}
 use mathlib.Core.Path.{_≡_}
 use mathlib.Core.List.{List, []}
+use lib.Dec.{eqb}
 use lib.Ieee.{Float}
-use lib.ListN.{length}
+use lib.ListN.{length, getD}
 use Rattle.layout.specs.declared.Layout.{Layout}
-use Rattle.layout.specs.Layout.{validLayout}
-use Rattle.line.specs.declared.LineAnswer.the-variants.{Points}
-use Rattle.line.specs.Line.{codesOf, packedOf, PackedLine, CodeLine}
+use Rattle.layout.specs.Layout.{grouped, wholeGroups, validGroups, validLayout}
+use Rattle.refusal.specs.Refusal.{wrongLineOrOutput, oddCount}
+use Rattle.line.specs.declared.LineAnswer.the-variants.{Points, Refused}
+use Rattle.line.specs.Line.{codeAt, codesOf, byteAt, packedOf, looked, shared, PackedLine, CodeLine}
 use Rattle.line.specs.Answer.{mostPoints, unpackAnswer, packAnswer}
-use Rattle.encoding.specs.Encode.{quantizedOf}
+use Rattle.line_values.specs.Encode.{quantizedOf}
 use Rattle.scanline_laws.specs.Cleared.{cleared}
 
 -- packing what was unpacked clears the unused bits and changes nothing else
 abbrev pub PacksWhatWasUnpacked : Type 0
 PacksWhatWasUnpacked = (l : Layout) (n : ℕ) (s : List ℕ) → PackedLine l n s → packedOf l (codesOf l s) ≡ cleared l s
 
--- where the three fields use every bit, it changes nothing at all (of the paper's layouts, 8 bits at 3 bytes a point)
-abbrev pub PacksBackWhole : Type 0
-PacksBackWhole = (l : Layout) (n : ℕ) (s : List ℕ) → PackedLine l n s → 3 * l .depth ≡ 8 * l .bytes → packedOf l (codesOf l s) ≡ s
+-- where every bit is used, it changes nothing at all: of groups (A6), and where the three fields use every bit (of the paper's layouts, 8 bits at 3 bytes a point)
+abbrev pub everyBitUsed : Layout → Bool
+everyBitUsed l = grouped l || eqb (3 * l .depth) (8 * l .bytes)
 
--- unpacking what was packed gives the codes
+abbrev pub PacksBackWhole : Type 0
+PacksBackWhole = (l : Layout) (n : ℕ) (s : List ℕ) → PackedLine l n s → everyBitUsed l ≡ true → packedOf l (codesOf l s) ≡ s
+
+-- unpacking what was packed gives the codes, but that both points of a group have its colour, the first's (A6)
 abbrev pub UnpacksWhatWasPacked : Type 0
-UnpacksWhatWasPacked = (l : Layout) (n : ℕ) (cs : List ℕ) → CodeLine l n cs → codesOf l (packedOf l cs) ≡ cs
+UnpacksWhatWasPacked = (l : Layout) (n : ℕ) (cs : List ℕ) → CodeLine l n cs → codesOf l (packedOf l cs) ≡ shared l 0 cs
+
+-- which is the codes themselves where points are of their own, and where the points of each group have one colour
+abbrev pub SharedWhereTheSame : Type 1
+SharedWhereTheSame = (A : Type 0) (l : Layout) (d : A) (xs : List A) → ((k : ℕ) → k < length xs → looked l k ≡ false → getD xs k d ≡ getD xs (k - 3) d) → shared l d xs ≡ xs
+
+-- the colour of a group's second point is not looked at: lines that differ only there are packed to the same bytes, and answered alike (A6)
+abbrev pub PacksWithoutLooking : Type 0
+PacksWithoutLooking =
+    (l : Layout) (cs ds : List ℕ) → length cs ≡ length ds → ((k : ℕ) → k < length cs → looked l k ≡ true → getD cs k 0 ≡ getD ds k 0)
+    → (packedOf l cs ≡ packedOf l ds) × ((bytes : ℕ) → packAnswer l cs bytes ≡ packAnswer l ds bytes)
+
+-- A6's words: a group is four bytes Cb, Y', Cr, Y', and both of its points take its colour
+abbrev pub ReadsGroups : Type 0
+ReadsGroups =
+    (l : Layout) (s : List ℕ) (i : ℕ) → grouped l ≡ true
+    → let cb = getD s (4 * i) 0 in
+    let cr = getD s (4 * i + 2) 0 in
+    (codeAt l s (6 * i) ≡ getD s (4 * i + 1) 0) × (codeAt l s (6 * i + 1) ≡ cb) × (codeAt l s (6 * i + 2) ≡ cr)
+    × (codeAt l s (6 * i + 3) ≡ getD s (4 * i + 3) 0) × (codeAt l s (6 * i + 4) ≡ cb) × (codeAt l s (6 * i + 5) ≡ cr)
+
+-- and a group takes the colour of its first point
+abbrev pub WritesGroups : Type 0
+WritesGroups =
+    (l : Layout) (cs : List ℕ) (i : ℕ) → grouped l ≡ true
+    → (byteAt l cs (4 * i) ≡ getD cs (6 * i + 1) 0) × (byteAt l cs (4 * i + 1) ≡ getD cs (6 * i) 0)
+    × (byteAt l cs (4 * i + 2) ≡ getD cs (6 * i + 2) 0) × (byteAt l cs (4 * i + 3) ≡ getD cs (6 * i + 3) 0)
+
+-- the count is two points a group, and 2,048 groups are a line of the most points
+abbrev pub CountsTwoAGroup : Type 0
+CountsTwoAGroup = (l : Layout) (g : ℕ) → validGroups l ≡ true → g ≤ 2048 → unpackAnswer l (4 * g) (6 * g) ≡ Points (2 * g)
+
+-- of groups an odd count of whole points is refused by 16, also one of more than 4,096 (4,097)
+abbrev pub RefusesOddCounts : Type 0
+RefusesOddCounts = (l : Layout) (g bytes : ℕ) (cs : List ℕ) → validGroups l ≡ true → length cs ≡ 3 * (2 * g + 1) → packAnswer l cs bytes ≡ Refused oddCount
+
+-- and one of more than 4,096 points that is not odd (4,098 of groups) by 13; so are packed bytes that are not of whole groups, unpacked or decoded
+abbrev pub RefusesTooMany : Type 0
+RefusesTooMany = (l : Layout) (n bytes : ℕ) (cs : List ℕ) → validLayout l ≡ true → wholeGroups l n ≡ true → mostPoints < n → length cs ≡ 3 * n → packAnswer l cs bytes ≡ Refused wrongLineOrOutput
+
+abbrev pub RefusesPartsOfGroups : Type 0
+RefusesPartsOfGroups = (l : Layout) (bytes codes : ℕ) → validGroups l ≡ true → eqb (bytes % 4) 0 ≡ false → unpackAnswer l bytes codes ≡ Refused wrongLineOrOutput
+
+-- as is a line that is not of whole points
+abbrev pub RefusesPartsOfPoints : Type 0
+RefusesPartsOfPoints = (l : Layout) (bytes : ℕ) (cs : List ℕ) → validLayout l ≡ true → eqb (length cs % 3) 0 ≡ false → packAnswer l cs bytes ≡ Refused wrongLineOrOutput
 
 -- each of the two is of the other's kind, with as many points
 abbrev pub UnpacksToCodes : Type 0
@@ -45,7 +95,7 @@ PacksUnusedBitsAsZero = (l : Layout) (n : ℕ) (cs : List ℕ) → CodeLine l n 
 
 -- the codes of values are codes of the depth, so that all this holds of an encoded line too
 abbrev pub EncodesToCodes : Type 0
-EncodesToCodes = (l : Layout) (n : ℕ) (vs : List Float) → validLayout l ≡ true → length vs ≡ 3 * n → CodeLine l n (quantizedOf l vs)
+EncodesToCodes = (l : Layout) (n : ℕ) (vs : List Float) → validLayout l ≡ true → wholeGroups l n ≡ true → length vs ≡ 3 * n → CodeLine l n (quantizedOf l vs)
 
 -- an empty line counts 0
 abbrev pub CountsEmptyLines : Type 0

@@ -69,7 +69,9 @@ fn show_all(stack: &[u8]) {
     show(stack, 2, 0);
     show(stack, 3, 117);
     show(stack, 2, 117);
-    show(stack, 4, 203001);
+    show(stack, 4, 118);
+    show(stack, 3, 118);
+    show(stack, 5, 203001);
 }
 
 fn main() {
@@ -77,6 +79,6 @@ fn main() {
     let length = io::read_full(STDIN_FILENO, &mut buffer);
     show_all(&buffer[..length]);
     show(b"no stack", 2, 203001);
-    show(b"no stack", 4, 203001);
+    show(b"no stack", 5, 203001);
     show(b"", 2, 203001);
 }

@@ -1,11 +1,12 @@
-// A line's points unpacked. Every code comes from only the bytes that hold its field.
+// A line's points unpacked, where they are of their own. Every code comes from only the bytes that hold its field.
 ghost use mathlib.Core.Path.{_≡_};
 ghost use mathlib.Core.Bool.{true};
 ghost use Prim.Native.Nat.{_+_, _*_, _<_, _≤_};
 ghost use lib.ListN.{length, take, drop};
 ghost use Rattle.lists.specs.inner.Stores.{written};
-ghost use Rattle.layout.specs.Layout.{validLayout};
-ghost use Rattle.line.specs.Line.{codeAt, codesOf};
+ghost use Rattle.layout.specs.Layout.{validPoints};
+ghost use Rattle.line.specs.Line.{pointCode};
+ghost use Rattle.line.specs.inner.Points.{pointCodes};
 ghost use Rattle.line.specs.inner.Channels.{channelWritten};
 ghost use Rattle.field.specs.inner.Read.{readCode, readAt, oneCount};
 use field::Field;
@@ -22,7 +23,7 @@ fn code_at(field: Field, packed: &[u8], at: usize, count: usize) -> u16
 
 // Stores the three codes of point i, which begins at byte `at`. All three fields have one count of bytes.
 fn put(layout: Layout, packed: &[u8], at: usize, codes: &mut [u16], i: usize)
-    requires { ⌜ (validLayout layout ≡ true) × (oneCount layout ≡ true) ⌝ }
+    requires { ⌜ (validPoints layout ≡ true) × (oneCount layout ≡ true) ⌝ }
     requires { ⌜ (at + layout .bytes ≤ length (now packed)) × (3 * i + 3 ≤ length (now codes)) ⌝ }
     ensures { λ _. ⌜ now (codes .exit) ≡ written (now (codes .entry)) (3 * i) (λ j. readAt layout (now (packed .entry)) at j) 3 ⌝ }
 {
@@ -37,9 +38,9 @@ fn put(layout: Layout, packed: &[u8], at: usize, codes: &mut [u16], i: usize)
 
 // The codes of all points of a line of n, point by point.
 fn points(layout: Layout, packed: &[u8], codes: &mut [u16], n: usize)
-    requires { ⌜ (validLayout layout ≡ true) × (oneCount layout ≡ true) ⌝ }
+    requires { ⌜ (validPoints layout ≡ true) × (oneCount layout ≡ true) ⌝ }
     requires { ⌜ (length (now packed) ≡ layout .bytes * n) × (length (now codes) ≡ 3 * n) ⌝ }
-    ensures { λ _. ⌜ now (codes .exit) ≡ codesOf layout (now (packed .entry)) ⌝ }
+    ensures { λ _. ⌜ now (codes .exit) ≡ pointCodes layout (now (packed .entry)) ⌝ }
 {
     let mut at = 0;
     let mut i = 0;
@@ -52,9 +53,9 @@ fn points(layout: Layout, packed: &[u8], codes: &mut [u16], n: usize)
 
 // The codes of one channel of n points.
 fn one_channel(layout: Layout, channel: u8, packed: &[u8], codes: &mut [u16], n: usize)
-    requires { ⌜ (validLayout layout ≡ true) × (channel < 3) ⌝ }
+    requires { ⌜ (validPoints layout ≡ true) × (channel < 3) ⌝ }
     requires { ⌜ (length (now packed) ≡ layout .bytes * n) × (length (now codes) ≡ 3 * n) ⌝ }
-    ensures { λ _. ⌜ now (codes .exit) ≡ channelWritten (now (codes .entry)) (codeAt layout (now (packed .entry))) channel n ⌝ }
+    ensures { λ _. ⌜ now (codes .exit) ≡ channelWritten (now (codes .entry)) (pointCode layout (now (packed .entry))) channel n ⌝ }
 {
     let field = Field::of(layout, channel);
     let count = field.count;
@@ -71,9 +72,9 @@ fn one_channel(layout: Layout, channel: u8, packed: &[u8], codes: &mut [u16], n:
 // The codes of all points of a line of n, channel by channel: where the fields have not one count of bytes, so that a choice by
 // the count can be taken out of the loop.
 fn channels(layout: Layout, packed: &[u8], codes: &mut [u16], n: usize)
-    requires { ⌜ validLayout layout ≡ true ⌝ }
+    requires { ⌜ validPoints layout ≡ true ⌝ }
     requires { ⌜ (length (now packed) ≡ layout .bytes * n) × (length (now codes) ≡ 3 * n) ⌝ }
-    ensures { λ _. ⌜ now (codes .exit) ≡ codesOf layout (now (packed .entry)) ⌝ }
+    ensures { λ _. ⌜ now (codes .exit) ≡ pointCodes layout (now (packed .entry)) ⌝ }
 {
     let mut k = 0;
     while k < 3 {
@@ -84,9 +85,9 @@ fn channels(layout: Layout, packed: &[u8], codes: &mut [u16], n: usize)
 
 // The codes of all points of a line of n.
 pub(crate) fn all(layout: Layout, packed: &[u8], codes: &mut [u16], n: usize)
-    requires { ⌜ validLayout layout ≡ true ⌝ }
+    requires { ⌜ validPoints layout ≡ true ⌝ }
     requires { ⌜ (length (now packed) ≡ layout .bytes * n) × (length (now codes) ≡ 3 * n) ⌝ }
-    ensures { λ _. ⌜ now (codes .exit) ≡ codesOf layout (now (packed .entry)) ⌝ }
+    ensures { λ _. ⌜ now (codes .exit) ≡ pointCodes layout (now (packed .entry)) ⌝ }
 {
     if field::one_count(layout) {
         points(layout, packed, codes, n);

@@ -10,7 +10,7 @@ use super::{
 };
 
 /// What each of two bytes is changed to.
-const TELLING: [u8; 7] = [0, 1, 2, 3, 4, 12, 255];
+const TELLING: [u8; 8] = [0, 1, 2, 3, 4, 5, 12, 255];
 /// Times that each two bytes are changed together to random ones.
 const RANDOM_CHANGES: usize = 4;
 const RANDOM_CARDS: usize = 40_000;

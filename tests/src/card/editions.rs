@@ -10,7 +10,7 @@ use super::{
     WRITTEN,
 };
 
-/// Every edition asked, of cards that are accepted at 3.
+/// Every edition asked, of cards that are accepted at 4.
 pub fn asked(library: &Library, tally: &mut Tally) -> Flow {
     for card in cards::chosen() {
         for edition in 0..=u8::MAX {
@@ -23,8 +23,8 @@ pub fn asked(library: &Library, tally: &mut Tally) -> Flow {
 
 /// Every edition that may have written a card, with every access number, alone and
 /// with one of the bytes after it, which take turns, read at every edition that is
-/// known, and rewritten at one of them. Those from the first five editions are
-/// rewritten at each, and read at 4 and 5 too.
+/// known, and rewritten at one of them. Those from the first six editions are
+/// rewritten at each, and read at 5 and 6 too.
 pub fn access(library: &Library, tally: &mut Tally) -> Flow {
     let mut after = (ACCESS + 1..SIZE).cycle();
     for layout in [
@@ -32,6 +32,7 @@ pub fn access(library: &Library, tally: &mut Tally) -> Flow {
         cards::layout(12),
         cards::older(10),
         cards::older(12),
+        cards::groups(),
     ] {
         for written in 0..=u8::MAX {
             let mut card = cards::written_at(written, cards::facts_in_turn(layout, 0));
@@ -41,12 +42,12 @@ pub fn access(library: &Library, tally: &mut Tally) -> Flow {
                 for byte in [0, 1 + access / 2] {
                     card[place] = byte;
                     compare_read_at_known(library, tally, &card)?;
-                    if written <= 5 {
+                    if written <= 6 {
                         for edition in KNOWN_EDITIONS {
                             compare_rewrite(library, tally, &card, edition, SIZE)?;
                         }
-                        compare_read(library, tally, &card, 4)?;
                         compare_read(library, tally, &card, 5)?;
+                        compare_read(library, tally, &card, 6)?;
                     } else {
                         let turn = usize::from(written) + usize::from(access);
                         let edition = KNOWN_EDITIONS[turn % KNOWN_EDITIONS.len()];
@@ -60,7 +61,8 @@ pub fn access(library: &Library, tally: &mut Tally) -> Flow {
     Flow::Continue(())
 }
 
-/// All values of both bytes, with every depth, in the older full range and not.
+/// All values of both bytes, with every depth, in the older full range and not, and of
+/// groups.
 pub fn least_and_written(library: &Library, tally: &mut Tally) -> Flow {
     for layout in cards::layouts() {
         let mut card = cards::card(cards::facts_in_turn(layout, 0));

@@ -10,10 +10,12 @@ use crate::wrong::REFERENCE;
 
 use super::{Card, Reading, Rewriting, SIZE};
 
+mod groups;
+
 /// The paper's item 7: open, 720 by 576, here of 8 bits. Edition 1 can read it.
 const ITEM_7: (Facts, Card) = (
     Facts {
-        layout: [2, 2, 1, 8, 4, 0, 8, 16],
+        layout: [2, 2, 1, 8, 4, 0, 8, 16, 0],
         width: 720,
         height: 576,
         item: 7,
@@ -32,7 +34,7 @@ const ITEM_7: (Facts, Card) = (
 /// 12 bits, for the community: edition 1 can't read it.
 const WIDE: (Facts, Card) = (
     Facts {
-        layout: [1, 4, 2, 12, 5, 24, 0, 12],
+        layout: [1, 4, 2, 12, 5, 24, 0, 12, 0],
         width: 4096,
         height: 1,
         item: 0x8000_0000_0000_0100,
@@ -51,7 +53,7 @@ const WIDE: (Facts, Card) = (
 /// An early capture in the older full range, 8 bits, open: only edition 3 reads it.
 const EARLY: (Facts, Card) = (
     Facts {
-        layout: [2, 2, 3, 8, 3, 0, 8, 16],
+        layout: [2, 2, 3, 8, 3, 0, 8, 16, 0],
         width: 720,
         height: 576,
         item: 12,
@@ -70,7 +72,7 @@ const EARLY: (Facts, Card) = (
 /// The same of 12 bits, closed.
 const EARLY_WIDE: (Facts, Card) = (
     Facts {
-        layout: [2, 4, 3, 12, 5, 0, 12, 24],
+        layout: [2, 4, 3, 12, 5, 0, 12, 24, 0],
         width: 1,
         height: 4096,
         item: 13,
@@ -89,21 +91,21 @@ const EARLY_WIDE: (Facts, Card) = (
 /// What a reading answers: an access or a refusal.
 type Answer = Result<u8, i64>;
 
-/// A card with some bytes changed and what a reading at editions 1, 2 and 3 must
+/// A card with some bytes changed and what a reading at editions 1, 2, 3 and 4 must
 /// answer.
 struct Changed {
     name: &'static str,
     card: Card,
     /// Places and what they hold now.
     bytes: &'static [(usize, u8)],
-    answers: [Answer; 3],
+    answers: [Answer; 4],
 }
 
 const fn changed(
     name: &'static str,
     (_, card): (Facts, Card),
     bytes: &'static [(usize, u8)],
-    answers: [Answer; 3],
+    answers: [Answer; 4],
 ) -> Changed {
     Changed {
         name,
@@ -117,195 +119,188 @@ const REFUSED_8: Answer = Err(-8);
 const REFUSED_9: Answer = Err(-9);
 const REFUSED_10: Answer = Err(-10);
 
-/// At all three editions.
-const ALL_9: [Answer; 3] = [REFUSED_9; 3];
+/// At all four editions.
+const ALL_9: [Answer; 4] = [REFUSED_9; 4];
 
+/// From edition 2, 3 or 4 on, where those before give 8.
+const fn from_2(answer: Answer) -> [Answer; 4] {
+    [REFUSED_8, answer, answer, answer]
+}
+const fn from_3(answer: Answer) -> [Answer; 4] {
+    [REFUSED_8, REFUSED_8, answer, answer]
+}
+const fn at_4(answer: Answer) -> [Answer; 4] {
+    [REFUSED_8, REFUSED_8, REFUSED_8, answer]
+}
 const CHANGED: &[Changed] = &[
-    changed("item 7", ITEM_7, &[], [Ok(0), Ok(2), Ok(2)]),
-    changed("12 bits", WIDE, &[], [REFUSED_8, Ok(1), Ok(1)]),
-    changed("early", EARLY, &[], [REFUSED_8, REFUSED_8, Ok(2)]),
-    changed(
-        "early, wide",
-        EARLY_WIDE,
-        &[],
-        [REFUSED_8, REFUSED_8, Ok(0)],
-    ),
+    changed("item 7", ITEM_7, &[], [Ok(0), Ok(2), Ok(2), Ok(2)]),
+    changed("12 bits", WIDE, &[], from_2(Ok(1))),
+    changed("early", EARLY, &[], from_3(Ok(2))),
+    changed("early, wide", EARLY_WIDE, &[], from_3(Ok(0))),
     // Bytes 0 and 1.
     changed("byte 0 is 0", ITEM_7, &[(0, 0)], ALL_9),
     changed("byte 0 is 0, early", EARLY, &[(0, 0)], ALL_9),
-    changed(
-        "byte 0 too high",
-        ITEM_7,
-        &[(0, 2)],
-        [REFUSED_8, REFUSED_9, REFUSED_9],
-    ),
-    changed(
-        "byte 0 is 3",
-        ITEM_7,
-        &[(0, 3), (1, 3)],
-        [REFUSED_8, REFUSED_8, REFUSED_9],
-    ),
-    changed("byte 0 is 4", ITEM_7, &[(0, 4), (1, 4)], [REFUSED_8; 3]),
+    changed("byte 0 too high", ITEM_7, &[(0, 2)], from_2(REFUSED_9)),
+    changed("byte 0 is 3", ITEM_7, &[(0, 3), (1, 3)], from_3(REFUSED_9)),
+    changed("byte 0 is 4", ITEM_7, &[(0, 4), (1, 4)], at_4(REFUSED_9)),
     changed(
         "byte 0 is 4, early",
         EARLY,
         &[(0, 4), (1, 4)],
-        [REFUSED_8; 3],
+        at_4(REFUSED_9),
     ),
+    changed("byte 0 is 5", ITEM_7, &[(0, 5), (1, 5)], at_4(REFUSED_8)),
     changed("byte 0 too low", WIDE, &[(0, 1)], ALL_9),
     changed("byte 0 is 1, early", EARLY, &[(0, 1)], ALL_9),
-    changed(
-        "byte 0 is 2, early",
-        EARLY,
-        &[(0, 2)],
-        [REFUSED_8, REFUSED_9, REFUSED_9],
-    ),
+    changed("byte 0 is 2, early", EARLY, &[(0, 2)], from_2(REFUSED_9)),
     changed(
         "byte 0 is 2, early and wide",
         EARLY_WIDE,
         &[(0, 2)],
-        [REFUSED_8, REFUSED_9, REFUSED_9],
+        from_2(REFUSED_9),
     ),
     changed("written at 0", ITEM_7, &[(1, 0)], ALL_9),
     changed("written at 1, open", ITEM_7, &[(1, 1)], ALL_9),
     changed("written at 1, access 3", ITEM_7, &[(1, 1), (24, 3)], ALL_9),
-    changed("written at 1", ITEM_7, &[(1, 1), (24, 0)], [Ok(0); 3]),
-    changed(
-        "12 bits written at 1",
-        WIDE,
-        &[(1, 1)],
-        [REFUSED_8, REFUSED_9, REFUSED_9],
-    ),
-    changed(
-        "early, written at 2",
-        EARLY,
-        &[(1, 2)],
-        [REFUSED_8, REFUSED_8, REFUSED_9],
-    ),
+    changed("written at 1", ITEM_7, &[(1, 1), (24, 0)], [Ok(0); 4]),
+    changed("12 bits written at 1", WIDE, &[(1, 1)], from_2(REFUSED_9)),
+    changed("early, written at 2", EARLY, &[(1, 2)], from_3(REFUSED_9)),
     // The range decides byte 0 at every depth.
     changed("range 3 with byte 0 of 1", ITEM_7, &[(4, 3)], ALL_9),
-    changed(
-        "full with byte 0 of 3",
-        EARLY,
-        &[(4, 2)],
-        [REFUSED_8, REFUSED_8, REFUSED_9],
-    ),
+    changed("full with byte 0 of 3", EARLY, &[(4, 2)], from_3(REFUSED_9)),
     changed("range 4", ITEM_7, &[(4, 4)], ALL_9),
     // Access.
     changed(
         "access 3 from 2",
         ITEM_7,
         &[(24, 3)],
-        [Ok(0), REFUSED_10, REFUSED_10],
+        [Ok(0), REFUSED_10, REFUSED_10, REFUSED_10],
     ),
     changed(
         "access 3 from 3",
         ITEM_7,
         &[(1, 3), (24, 3)],
-        [Ok(0), Ok(0), REFUSED_10],
+        [Ok(0), Ok(0), REFUSED_10, REFUSED_10],
     ),
     changed(
         "access 3 from 4",
         ITEM_7,
         &[(1, 4), (24, 3)],
-        [Ok(0), Ok(0), Ok(0)],
+        [Ok(0), Ok(0), Ok(0), REFUSED_10],
+    ),
+    changed("access 3 from 5", ITEM_7, &[(1, 5), (24, 3)], [Ok(0); 4]),
+    changed("access 3, early", EARLY, &[(24, 3)], from_3(REFUSED_10)),
+    changed(
+        "open from 3",
+        ITEM_7,
+        &[(1, 3)],
+        [Ok(0), Ok(2), Ok(2), Ok(2)],
     ),
     changed(
-        "access 3, early",
-        EARLY,
-        &[(24, 3)],
-        [REFUSED_8, REFUSED_8, REFUSED_10],
+        "open from 4",
+        ITEM_7,
+        &[(1, 4)],
+        [Ok(0), Ok(2), Ok(2), Ok(2)],
     ),
-    changed("open from 3", ITEM_7, &[(1, 3)], [Ok(0), Ok(2), Ok(2)]),
-    changed("open from 4", ITEM_7, &[(1, 4)], [Ok(0), Ok(2), Ok(2)]),
+    changed(
+        "open from 5",
+        ITEM_7,
+        &[(1, 5)],
+        [Ok(0), Ok(2), Ok(2), Ok(2)],
+    ),
     changed(
         "byte 25 from 2",
         ITEM_7,
         &[(25, 1)],
-        [Ok(0), REFUSED_9, REFUSED_9],
+        [Ok(0), REFUSED_9, REFUSED_9, REFUSED_9],
     ),
     changed(
         "byte 31 from 3",
         ITEM_7,
         &[(1, 3), (31, 1)],
-        [Ok(0), Ok(2), REFUSED_9],
+        [Ok(0), Ok(2), REFUSED_9, REFUSED_9],
     ),
     changed(
         "byte 31 from 4",
         ITEM_7,
         &[(1, 4), (31, 1)],
-        [Ok(0), Ok(2), Ok(2)],
+        [Ok(0), Ok(2), Ok(2), REFUSED_9],
+    ),
+    changed(
+        "byte 31 from 5",
+        ITEM_7,
+        &[(1, 5), (31, 1)],
+        [Ok(0), Ok(2), Ok(2), Ok(2)],
     ),
     // Fields, and refusals that compete.
     changed("byte 7", ITEM_7, &[(7, 1)], ALL_9),
+    changed("byte 7 is 2", ITEM_7, &[(7, 2)], ALL_9),
     changed("byte 11", ITEM_7, &[(11, 1)], ALL_9),
     changed("fields overlap", ITEM_7, &[(9, 7)], ALL_9),
-    changed(
-        "width 4,097",
-        WIDE,
-        &[(12, 1)],
-        [REFUSED_8, REFUSED_9, REFUSED_9],
-    ),
-    changed(
-        "height 0",
-        WIDE,
-        &[(14, 0)],
-        [REFUSED_8, REFUSED_9, REFUSED_9],
-    ),
+    changed("width 4,097", WIDE, &[(12, 1)], from_2(REFUSED_9)),
+    changed("height 0", WIDE, &[(14, 0)], from_2(REFUSED_9)),
     changed("item 0", ITEM_7, &[(16, 0)], ALL_9),
-    changed(
-        "both 8 and 9",
-        WIDE,
-        &[(7, 1)],
-        [REFUSED_8, REFUSED_9, REFUSED_9],
-    ),
-    changed(
-        "both 8 and 9, early",
-        EARLY,
-        &[(7, 1)],
-        [REFUSED_8, REFUSED_8, REFUSED_9],
-    ),
+    changed("both 8 and 9", WIDE, &[(7, 1)], from_2(REFUSED_9)),
+    changed("both 8 and 9, early", EARLY, &[(7, 1)], from_3(REFUSED_9)),
     changed("9, 10", ITEM_7, &[(7, 1), (24, 3)], ALL_9),
     changed(
         "10, 9",
         ITEM_7,
         &[(24, 3), (25, 1)],
-        [Ok(0), REFUSED_10, REFUSED_10],
+        [Ok(0), REFUSED_10, REFUSED_10, REFUSED_10],
+    ),
+    changed(
+        "odd width of points",
+        ITEM_7,
+        &[(12, 0xd1)],
+        [Ok(0), Ok(2), Ok(2), Ok(2)],
     ),
 ];
 
 pub fn written_out(library: &Library, tally: &mut Tally) -> Flow {
     for (program, library) in [("library", library), ("reference", &REFERENCE)] {
-        for (facts, card) in [ITEM_7, WIDE, EARLY, EARLY_WIDE] {
-            let [least, edition, ..] = card;
-            let written = Outcome::of(SIZE, |out| (library.card_write)(edition, facts, out));
-            tally.compare(
-                written.answer == 0 && written.output.elements() == card,
-                || format!("{program}: {facts:?} is written otherwise"),
-            )?;
-            // Edition 1 lacks the access, or the layout; 2 lacks the layout.
-            for earlier in 1..least.max(2) {
-                let refused = Outcome::of(SIZE, |out| (library.card_write)(earlier, facts, out));
-                tally.compare(refused.answer == -11, || {
-                    format!(
-                        "{program}: {facts:?} is written at {earlier}: {}",
-                        refused.answer
-                    )
-                })?;
-            }
-            let reading = Reading::of(library.card_read, &card, edition);
-            let layout = reading.told.layout.elements();
-            tally.compare(reading.answer == 0 && layout == facts.layout, || {
-                format!("{program}: the card of {facts:?} is read otherwise")
-            })?;
+        for example in [ITEM_7, WIDE, EARLY, EARLY_WIDE] {
+            written_so(library, tally, program, example)?;
         }
         for changed in CHANGED {
             agrees(library, tally, program, changed)?;
         }
         rewritten_at_1(library, tally, program)?;
-        rewritten_at_3(library, tally, program)?;
+        rewritten_later(library, tally, program)?;
+        groups::written_out(library, tally, program)?;
     }
     Flow::Continue(())
+}
+
+/// The card of facts, at the edition that its byte 1 says. Those before refuse to write
+/// what they lack.
+fn written_so(
+    library: &Library,
+    tally: &mut Tally,
+    program: &str,
+    (facts, card): (Facts, Card),
+) -> Flow {
+    let [least, edition, ..] = card;
+    let written = Outcome::of(SIZE, |out| (library.card_write)(edition, facts, out));
+    tally.compare(
+        written.answer == 0 && written.output.elements() == card,
+        || format!("{program}: {facts:?} is written otherwise"),
+    )?;
+    // Edition 1 lacks the access, or the layout; the others lack the layout.
+    for earlier in 1..least.max(2) {
+        let refused = Outcome::of(SIZE, |out| (library.card_write)(earlier, facts, out));
+        tally.compare(refused.answer == -11, || {
+            format!(
+                "{program}: {facts:?} is written at {earlier}: {}",
+                refused.answer
+            )
+        })?;
+    }
+    let reading = Reading::of(library.card_read, &card, edition);
+    let layout = reading.told.layout.elements();
+    tally.compare(reading.answer == 0 && layout == facts.layout, || {
+        format!("{program}: the card of {facts:?} is read otherwise")
+    })
 }
 
 fn agrees(library: &Library, tally: &mut Tally, program: &str, changed: &Changed) -> Flow {
@@ -343,7 +338,7 @@ fn rewritten_at_1(library: &Library, tally: &mut Tally, program: &str) -> Flow {
     tally.compare(rewritten == closed, || {
         format!("{program}: rewritten at 1 to {rewritten:?}")
     })?;
-    for edition in [2, 3] {
+    for edition in [2, 3, 4] {
         closed[1] = edition;
         let rewriting = Rewriting::of(library.card_rewrite, rewritten, edition, SIZE);
         let again = rewriting.outcome.output.elements();
@@ -354,10 +349,10 @@ fn rewritten_at_1(library: &Library, tally: &mut Tally, program: &str) -> Flow {
     Flow::Continue(())
 }
 
-/// Edition 3 keeps the access of a card from 2, and 2 that of a card from 3.
-fn rewritten_at_3(library: &Library, tally: &mut Tally, program: &str) -> Flow {
+/// Later editions keep the access of a card from 2, and 2 that of a card from later ones.
+fn rewritten_later(library: &Library, tally: &mut Tally, program: &str) -> Flow {
     let (_, mut card) = ITEM_7;
-    for edition in [3, 2, 3] {
+    for edition in [3, 2, 4, 3, 4, 2] {
         let rewriting = Rewriting::of(library.card_rewrite, &card, edition, SIZE);
         let rewritten = rewriting.outcome.output.elements();
         card[1] = edition;

@@ -6,14 +6,20 @@ use crate::library::Library;
 use crate::tally::{Flow, Tally};
 
 use super::cards;
-use super::{compare_read, compare_write, Card, ITEM, KNOWN_EDITIONS, SIZE};
+use super::{compare_read, compare_write, Card, ITEM, KNOWN_EDITIONS, SIZE, WIDTH};
 
-const WIDTH: usize = 12;
 const HEIGHT: usize = 14;
 
-/// All 65,536 numbers for each side, with a good one for the other.
+/// All 65,536 numbers for each side, with a good one for the other, of points and of
+/// groups, whose widths are even.
 pub fn sides(library: &Library, tally: &mut Tally) -> Flow {
-    let facts = cards::facts(10);
+    for layout in [cards::layout(10), cards::groups()] {
+        sides_of(library, tally, cards::facts_in_turn(layout, 0))?;
+    }
+    Flow::Continue(())
+}
+
+fn sides_of(library: &Library, tally: &mut Tally, facts: Facts) -> Flow {
     let card = cards::card(facts);
     for side in 0..=u16::MAX {
         let wide = Facts {

@@ -5,12 +5,15 @@ use crate::library::{Layout, Library};
 use crate::tally::{Flow, Tally};
 
 use super::cards;
-use super::{compare_read, compare_read_at_all, compare_rewrite, Card, ACCESS, LEAST, ROOMS, SIZE};
+use super::{
+    compare_read, compare_read_at_all, compare_rewrite, Card, ACCESS, LEAST, ROOMS, SAMPLING, SIZE,
+    WIDTH,
+};
 
-const EDITIONS: [u8; 7] = [1, 2, 3, 0, 4, 5, 255];
+const EDITIONS: [u8; 8] = [1, 2, 3, 4, 0, 5, 6, 255];
 
 /// Changes of bytes 2 to 23, with none first. Together they reach every field.
-const FIELDS: [&[(usize, u8)]; 21] = [
+const FIELDS: [&[(usize, u8)]; 28] = [
     &[],
     &[(2, 0)],
     &[(2, 3)],
@@ -25,7 +28,10 @@ const FIELDS: [&[(usize, u8)]; 21] = [
     &[(5, 16)],
     &[(6, 2)],
     &[(6, 9)],
-    &[(7, 1)],
+    // The other sampling, which has other offsets, and none that is known.
+    &[(SAMPLING, 0)],
+    &[(SAMPLING, 1)],
+    &[(SAMPLING, 2)],
     // Past the point's end; the same place for two fields.
     &[(8, 255)],
     &[(8, 0), (9, 0)],
@@ -33,6 +39,12 @@ const FIELDS: [&[(usize, u8)]; 21] = [
     &[(12, 0), (13, 0)],
     // 4,097.
     &[(12, 1), (13, 16)],
+    // An odd width, alone and with a field that is wrong: 721 and 4,095.
+    &[(WIDTH, 0xd1)],
+    &[(WIDTH, 255), (13, 15)],
+    &[(WIDTH, 0xd1), (3, 5)],
+    &[(WIDTH, 0xd1), (SAMPLING, 2)],
+    &[(WIDTH, 0xd1), (11, 1)],
     &[(14, 1), (15, 16)],
     &[
         (16, 0),
@@ -50,7 +62,7 @@ const FIELDS: [&[(usize, u8)]; 21] = [
 /// that other refusals speak of.
 pub fn lengths(library: &Library, tally: &mut Tally) -> Flow {
     for card in cards::chosen() {
-        for least in [card[LEAST], 0, 4] {
+        for least in [card[LEAST], 0, 5] {
             let mut cards = [card; 3].concat();
             cards[LEAST] = least;
             for length in 0..=cards.len() {
@@ -79,7 +91,7 @@ pub fn competing(library: &Library, tally: &mut Tally) -> Flow {
     for card in cards::layouts().into_iter().flat_map(stated) {
         for (length, editions) in [
             (SIZE, &EDITIONS[..]),
-            (SIZE - 1, &[3, 4]),
+            (SIZE - 1, &[4, 5]),
             (SIZE + 1, &[0, 2]),
         ] {
             let mut card = card.to_vec();
@@ -98,8 +110,8 @@ pub fn competing(library: &Library, tally: &mut Tally) -> Flow {
 /// it right or wrong.
 fn stated(layout: Layout) -> Vec<Card> {
     let mut stated = Vec::new();
-    for least in [1, 2, 3, 0, 4, 255] {
-        for written in [2, 1, 0, 3, 4, 255] {
+    for least in [1, 2, 3, 4, 0, 5, 255] {
+        for written in [2, 1, 0, 3, 4, 5, 255] {
             for field in FIELDS {
                 for access in [0, 2, 3] {
                     for after in [None, Some(ACCESS + 1), Some(SIZE - 1)] {

@@ -10,7 +10,7 @@ use crate::tally::{Flow, Tally};
 use super::cards;
 use super::{
     compare_read, compare_rewrite, unknown_editions, Card, Rewriting, ACCESS, KNOWN_EDITIONS,
-    LEAST, ROOMS, SIZE,
+    LEAST, ROOMS, SAMPLING, SIZE, WIDTH,
 };
 
 const LISTS: usize = 4000;
@@ -23,7 +23,8 @@ pub fn rooms(library: &Library, tally: &mut Tally) -> Flow {
             card,
             with(card, LEAST, 0),
             with(card, ACCESS, 3),
-            with(card, 7, 1),
+            with(card, SAMPLING, card[SAMPLING] ^ 1),
+            with(card, WIDTH, card[WIDTH] | 1),
         ] {
             for room in ROOMS {
                 for edition in KNOWN_EDITIONS {
@@ -59,7 +60,7 @@ pub fn lists(library: &Library, tally: &mut Tally) -> Flow {
         let mut card = written.output.elements().to_vec();
         let mut access = facts.access;
         for _ in 0..random.below(8) {
-            let edition = [2, 2, 3, 3, 3, 1, 0, 4][random.below(8)];
+            let edition = [2, 2, 3, 3, 4, 4, 4, 1, 0, 5][random.below(10)];
             let room = ROOMS[random.below(12).saturating_sub(7)];
             compare_rewrite(library, tally, &card, edition, room)?;
             let rewriting = Rewriting::of(library.card_rewrite, &card, edition, room);
@@ -73,7 +74,7 @@ pub fn lists(library: &Library, tally: &mut Tally) -> Flow {
         }
         let last = Facts { access, ..facts };
         let same = card[LEAST] == cards::least(facts.layout)
-            && reference::card::read(&card, 3) == Ok(last);
+            && reference::card::read(&card, 4) == Ok(last);
         tally.compare(same, || {
             format!("rewrites of {facts:?}: {card:?}, must tell {last:?}")
         })?;

@@ -3,7 +3,7 @@
 
 use reference::card::Facts;
 
-use crate::layouts;
+use crate::layouts::{self, is_grouped, MODEL, OFFSETS, RANGE, SAMPLING};
 use crate::library::{Layout, Library};
 use crate::tally::{Flow, Tally};
 
@@ -19,7 +19,7 @@ pub fn competing(library: &Library, tally: &mut Tally) -> Flow {
     let combinations: Vec<Facts> = layouts.flat_map(combinations).collect();
     for &facts in &combinations {
         for room in ROOMS {
-            for edition in [0, 1, 2, 3, 4, 5, 255] {
+            for edition in [0, 1, 2, 3, 4, 5, 6, 255] {
                 compare_write(library, tally, edition, facts, room)?;
             }
         }
@@ -48,7 +48,7 @@ pub fn competing(library: &Library, tally: &mut Tally) -> Flow {
 
 /// Every number of a layout takes all its values, at every edition.
 pub fn layouts_outside(library: &Library, tally: &mut Tally) -> Flow {
-    for (turn, layout) in layouts::one_of_each_size().enumerate() {
+    for (turn, layout) in layouts::one_of_each_size_and_groups().enumerate() {
         for changed in layouts::changed(layout) {
             for access in 0..=2 {
                 let facts = Facts {
@@ -67,7 +67,7 @@ pub fn layouts_outside(library: &Library, tally: &mut Tally) -> Flow {
 /// Cards of every layout, written, read and rewritten. Editions, sizes, items and
 /// access take turns.
 pub fn every_layout(library: &Library, tally: &mut Tally) -> Flow {
-    for (turn, layout) in layouts::every().enumerate() {
+    for (turn, layout) in layouts::every().chain(layouts::groups()).enumerate() {
         let facts = Facts {
             access: (turn % 3) as u8,
             ..cards::facts_in_turn(layout, turn)
@@ -82,15 +82,40 @@ pub fn every_layout(library: &Library, tally: &mut Tally) -> Flow {
 }
 
 fn combinations(layout: Layout) -> Vec<Facts> {
-    let mut unknown_model = layout;
-    unknown_model[0] = 3;
-    let mut unknown_range = layout;
-    unknown_range[2] = 4;
-    let mut overlapping = layout;
-    overlapping[6] = overlapping[5];
+    let with = |place, number| {
+        let mut changed = layout;
+        changed[place] = number;
+        changed
+    };
+    let layouts = [
+        layout,
+        with(MODEL, 3),
+        with(RANGE, 4),
+        // Two fields in one place, or in a group one that is not at 0.
+        with(
+            OFFSETS + 1,
+            if is_grouped(layout) {
+                8
+            } else {
+                layout[OFFSETS]
+            },
+        ),
+        with(SAMPLING, 1 - layout[SAMPLING]),
+        with(SAMPLING, 2),
+    ];
+    let sides = [
+        [720, 576],
+        [721, 576],
+        [4095, 1],
+        [0, 576],
+        [720, 0],
+        [721, 0],
+        [4097, 4096],
+        [4096, 4097],
+    ];
     let mut combinations = Vec::new();
-    for layout in [layout, unknown_model, unknown_range, overlapping] {
-        for [width, height] in [[720, 576], [0, 576], [720, 0], [4097, 4096], [4096, 4097]] {
+    for layout in layouts {
+        for [width, height] in sides {
             for item in [1, 0] {
                 for access in [0, 1, 2, 3, 255] {
                     combinations.push(Facts {

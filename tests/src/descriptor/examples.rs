@@ -2,6 +2,7 @@
 //! they must answer. The library and the reference are both compared with them.
 
 use crate::guarded::Outcome;
+use crate::layouts::group;
 use crate::library::{Layout, Library};
 use crate::tally::{Flow, Tally};
 use crate::wrong::REFERENCE;
@@ -10,7 +11,7 @@ use super::{Descriptor, SIZE};
 
 /// RGB, full, 8 bits, in channel order.
 const RGB: (Layout, Descriptor) = (
-    [1, 1, 2, 8, 3, 0, 8, 16],
+    [1, 1, 2, 8, 3, 0, 8, 16, 0],
     [
         76, 0, 0, 0, 0, 0, 0, 0, 1, 0, 72, 0, // header
         1, 1, 3, 0, // model, primaries, transfer, flags
@@ -23,7 +24,7 @@ const RGB: (Layout, Descriptor) = (
 
 /// Y'CbCr, narrow, 10 bits, Cb lowest: 64 to 960 for Cb and Cr, to 940 for Y'.
 const YCBCR: (Layout, Descriptor) = (
-    [2, 4, 1, 10, 4, 10, 0, 20],
+    [2, 4, 1, 10, 4, 10, 0, 20, 0],
     [
         76, 0, 0, 0, 0, 0, 0, 0, 1, 0, 72, 0, // header
         2, 4, 3, 0, // model, primaries, transfer, flags
@@ -36,7 +37,7 @@ const YCBCR: (Layout, Descriptor) = (
 
 /// Y'CbCr in the older full range, 10 bits, Cr lowest: 0 to 1024 for all.
 const OLDER: (Layout, Descriptor) = (
-    [2, 2, 3, 10, 5, 30, 20, 0],
+    [2, 2, 3, 10, 5, 30, 20, 0, 0],
     [
         76, 0, 0, 0, 0, 0, 0, 0, 1, 0, 72, 0, // header
         2, 2, 3, 0, // model, primaries, transfer, flags
@@ -46,6 +47,16 @@ const OLDER: (Layout, Descriptor) = (
         30, 0, 9, 0, 0, 0, 0, 0, 0, 0, 0, 0, 0, 4, 0, 0, // Y'
     ],
 );
+
+/// Layouts without a descriptor: groups, points as if they shared their colour, and a
+/// sampling that is not known.
+const WITHOUT: [Layout; 5] = [
+    group(1, 1),
+    group(2, 2),
+    group(4, 3),
+    [2, 2, 1, 8, 4, 0, 8, 16, 1],
+    [1, 1, 2, 8, 3, 0, 8, 16, 2],
+];
 
 /// A descriptor with some bytes changed, and what it must answer.
 struct Changed {
@@ -122,6 +133,15 @@ pub fn written_out(library: &Library, tally: &mut Tally) -> Flow {
             tally.compare(read.answer == 0 && read.output.output() == layout, || {
                 format!("{program}: the descriptor of {layout:?} is read otherwise")
             })?;
+        }
+        for layout in WITHOUT {
+            for room in [SIZE, SIZE - 1, 0] {
+                let written = Outcome::of(room, |out| (library.descriptor_write)(layout, out));
+                let refused = Outcome::of(room, |_| -9);
+                tally.compare(written == refused, || {
+                    format!("{program}: {layout:?}: {}", written.unlike(&refused))
+                })?;
+            }
         }
         for changed in &CHANGED {
             let mut bytes = changed.descriptor;

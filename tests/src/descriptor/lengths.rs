@@ -23,9 +23,9 @@ pub fn read(library: &Library, tally: &mut Tally) -> Flow {
 }
 
 /// Every number of a layout takes all its values, with the right length and with
-/// others.
+/// others. Groups have no descriptor.
 pub fn write(library: &Library, tally: &mut Tally) -> Flow {
-    for layout in layouts::one_of_each_size() {
+    for layout in layouts::one_of_each_size_and_groups() {
         for changed in layouts::changed(layout) {
             for length in [0, SIZE - 1, SIZE, SIZE + 1] {
                 compare_write(library, tally, changed, length)?;

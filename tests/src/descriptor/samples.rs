@@ -81,7 +81,7 @@ pub fn orders(library: &Library, tally: &mut Tally) -> Flow {
 
 /// Every 16-bit offset of each sample: 272 is not 16.
 pub fn long_offsets(library: &Library, tally: &mut Tally) -> Flow {
-    let descriptor = descriptor_of([2, 4, 1, 12, 8, 48, 16, 1]);
+    let descriptor = descriptor_of([2, 4, 1, 12, 8, 48, 16, 1, 0]);
     for index in 0..3 {
         let mut sample = sample(&descriptor, index);
         for offset in 0..=u16::MAX {

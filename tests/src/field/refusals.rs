@@ -31,9 +31,9 @@ pub fn lengths(library: &Library, tally: &mut Tally) -> Flow {
     Flow::Continue(())
 }
 
-/// Every channel, with each number of bytes.
+/// Every channel, with each number of bytes. Groups have no fields.
 pub fn channels(library: &Library, tally: &mut Tally) -> Flow {
-    for layout in layouts::one_of_each_size() {
+    for layout in layouts::one_of_each_size_and_groups() {
         for channel in 0..=u8::MAX {
             compare_field_bytes(library, tally, layout, channel)?;
             compare_lengths(library, tally, layout, channel)?;
@@ -45,7 +45,7 @@ pub fn channels(library: &Library, tally: &mut Tally) -> Flow {
 /// Every number of a layout takes all its values, those inside the paper too, with
 /// good channels and a bad one, and with each number of bytes.
 pub fn layouts_outside(library: &Library, tally: &mut Tally) -> Flow {
-    for layout in layouts::one_of_each_size() {
+    for layout in layouts::one_of_each_size_and_groups() {
         for changed in layouts::changed(layout) {
             for channel in 0..=3 {
                 compare_field_bytes(library, tally, changed, channel)?;

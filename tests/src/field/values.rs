@@ -50,9 +50,9 @@ fn each_place() -> impl Iterator<Item = (Layout, u8)> {
             // The others lie at both ends of the point.
             let (below, offset, above) = (0, 24 + bit, 64 - depth);
             match bit % 3 {
-                0 => ([2, 1, 1, depth, 8, offset, below, above], 0),
-                1 => ([1, 2, 2, depth, 8, above, offset, below], 1),
-                _ => ([2, 4, 3, depth, 8, below, above, offset], 2),
+                0 => ([2, 1, 1, depth, 8, offset, below, above, 0], 0),
+                1 => ([1, 2, 2, depth, 8, above, offset, below, 0], 1),
+                _ => ([2, 4, 3, depth, 8, below, above, offset, 0], 2),
             }
         })
     })

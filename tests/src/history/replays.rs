@@ -13,12 +13,12 @@ use crate::quantization::refused;
 use crate::random::Random;
 use crate::tally::{Flow, Tally};
 
-use super::{edition, line, room, EDITIONS, MOST_REWRITES};
+use super::{any_layout, edition, line, room, Asked, EDITIONS, MOST_REWRITES};
 
 const REPLAYS: usize = 30_000;
 
 /// The numbers of a reading: its refusal's, layout, width, height, item, access.
-pub const READ: usize = 13;
+pub const READ: usize = 14;
 
 /// The numbers of a decoding: its refusal's, count.
 pub const DECODED: usize = 2;
@@ -75,8 +75,8 @@ pub fn fits(asked: &Replaying) -> bool {
 }
 
 pub fn tell(facts: Facts, read: &mut [u64; READ]) {
-    read[1..9].copy_from_slice(&facts.layout.map(u64::from));
-    read[9..].copy_from_slice(&[
+    read[1..10].copy_from_slice(&facts.layout.map(u64::from));
+    read[10..].copy_from_slice(&[
         facts.width.into(),
         facts.height.into(),
         facts.item,
@@ -93,28 +93,31 @@ fn number(answer: Result<(), Refusal>) -> u8 {
 pub fn random(library: &Library, tally: &mut Tally) -> Flow {
     let mut random = Random::new();
     for turn in 0..REPLAYS {
-        let asked = asked(turn, &mut random);
-        let (answer, left) = after(library.replay, &asked);
-        let (must_be, must_leave) = after(expected_replay, &asked);
-        tally.compare(answer == must_be && left == must_leave, || {
-            format!(
-                "replay {:?} at {}, {:?}, {:?}, then at {}: answer {answer}, must be {must_be}; \
-                 answers {:?}, must be {:?}; read {:?}, must be {:?}; decoded {:?}, must be {:?}",
-                asked.facts,
-                asked.first,
-                asked.editions.elements(),
-                asked.lengths.elements(),
-                asked.last,
-                left.answers.elements(),
-                must_leave.answers.elements(),
-                left.read.elements(),
-                must_leave.read.elements(),
-                left.decoded.elements(),
-                must_leave.decoded.elements()
-            )
-        })?;
+        compare(library, tally, &asked(turn, &mut random))?;
     }
     Flow::Continue(())
+}
+
+pub fn compare(library: &Library, tally: &mut Tally, asked: &Replaying) -> Flow {
+    let (answer, left) = after(library.replay, asked);
+    let (must_be, must_leave) = after(expected_replay, asked);
+    tally.compare(answer == must_be && left == must_leave, || {
+        format!(
+            "replay {:?} at {}, {:?}, {:?}, then at {}: answer {answer}, must be {must_be}; \
+             answers {:?}, must be {:?}; read {:?}, must be {:?}; decoded {:?}, must be {:?}",
+            asked.facts,
+            asked.first,
+            asked.editions.elements(),
+            asked.lengths.elements(),
+            asked.last,
+            left.answers.elements(),
+            must_leave.answers.elements(),
+            left.read.elements(),
+            must_leave.read.elements(),
+            left.decoded.elements(),
+            must_leave.decoded.elements()
+        )
+    })
 }
 
 fn after(replay: Replay, asked: &Replaying) -> (i64, Replaying) {
@@ -125,35 +128,44 @@ fn after(replay: Replay, asked: &Replaying) -> (i64, Replaying) {
 
 fn asked(turn: usize, random: &mut Random) -> Replaying {
     let without_1 = random.one_in(2);
-    let layout = cards::layouts()[random.below(6)];
+    let layout = any_layout(random);
     let first = if random.one_in(16) {
         EDITIONS[random.below(EDITIONS.len())]
     } else if !without_1 && random.one_in(4) {
         cards::least(layout)
     } else {
-        cards::least(layout).max(2 + random.below(2) as u8)
+        cards::least(layout).max(2 + random.below(3) as u8)
     };
     let access = if first == 1 && !random.one_in(4) {
         0
     } else {
         (random.below(25) / 8) as u8
     };
-    let facts = Facts {
+    let mut facts = Facts {
         access,
         ..cards::facts_in_turn(layout, turn)
     };
-    let rewrites: Vec<(u8, usize)> = (0..random.below(MOST_REWRITES + 1))
+    if random.one_in(32) {
+        // Of groups this is odd.
+        facts.width -= 1;
+    }
+    let rewrites = (0..random.below(MOST_REWRITES + 1))
         .map(|_| (edition(random, without_1), room(random)))
         .collect();
-    let editions: Vec<u8> = rewrites.iter().map(|&(edition, _)| edition).collect();
-    let mut lengths: Vec<u64> = rewrites.iter().map(|&(_, room)| room as u64).collect();
-    let mut outputs: usize = rewrites.iter().map(|&(_, room)| room).sum();
-    let mut answers = editions.len();
-    let mut size = SIZE;
+    let (packed, floats) = line(facts, random);
+    let mut replaying = replaying(&Asked {
+        first,
+        facts,
+        rewrites,
+        last: edition(random, without_1),
+        packed,
+        floats,
+    });
+    let mut lengths = replaying.lengths.elements().to_vec();
     match random.below(24) {
-        0 => size = random.below(2 * SIZE),
-        1 => outputs += 1,
-        2 => answers += 1,
+        0 => replaying.card = Guarded::new(random.below(2 * SIZE)),
+        1 => replaying.outputs = Guarded::new(replaying.outputs.length() + 1),
+        2 => replaying.answers = Guarded::new(replaying.answers.length() + 1),
         3 => lengths.push(0),
         4 => lengths.push(u64::MAX),
         5 => {
@@ -163,19 +175,27 @@ fn asked(turn: usize, random: &mut Random) -> Replaying {
         }
         _ => {}
     }
-    let (packed, floats) = line(facts, random);
+    replaying.lengths = Guarded::holding(&lengths);
+    replaying
+}
+
+/// The history with memory that fits together.
+pub(super) fn replaying(asked: &Asked) -> Replaying {
+    let editions: Vec<u8> = asked.rewrites.iter().map(|&(edition, _)| edition).collect();
+    let rooms = asked.rewrites.iter().map(|&(_, room)| room);
+    let lengths: Vec<u64> = rooms.clone().map(|room| room as u64).collect();
     Replaying {
-        first,
-        facts,
-        layout: Guarded::holding(&facts.layout),
-        card: Guarded::new(size),
+        first: asked.first,
+        facts: asked.facts,
+        layout: Guarded::holding(&asked.facts.layout),
+        card: Guarded::new(SIZE),
+        outputs: Guarded::new(rooms.sum()),
+        answers: Guarded::new(editions.len()),
         editions: Guarded::holding(&editions),
         lengths: Guarded::holding(&lengths),
-        outputs: Guarded::new(outputs),
-        answers: Guarded::new(answers),
-        last: edition(random, without_1),
-        packed: Guarded::holding(&packed),
-        values: Guarded::new(floats),
+        last: asked.last,
+        packed: Guarded::holding(&asked.packed),
+        values: Guarded::new(asked.floats),
         read: Guarded::new(READ),
         decoded: Guarded::new(DECODED),
     }

@@ -48,7 +48,7 @@ const LAYOUT_CHANGED: i64 = i64::MIN;
 
 pub fn card_read<M: Memory>(card: &mut Guarded<u8>, edition: u8, told: &mut Told) -> i64 {
     let mut memory = M::of(Entry::CardRead);
-    // SAFETY: the pointers are to as many elements as the length says, eight for
+    // SAFETY: the pointers are to as many elements as the length says, nine for
     // the layout and four for the facts, and nothing else uses them.
     let answer = unsafe {
         ffi::imurraqi_card_read(

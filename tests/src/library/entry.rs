@@ -116,7 +116,7 @@ pub static ENTRIES: [Description; 19] = [
     describe(
         Entry::EncodeLine,
         "imurraqi_encode_line",
-        &[9, 12, 13],
+        &[9, 12, 13, 16],
         &[In("layout"), In("values"), Out("out"), Out("cuts")],
     ),
     describe(
@@ -140,7 +140,7 @@ pub static ENTRIES: [Description; 19] = [
     describe(
         Entry::PackLine,
         "imurraqi_pack_line",
-        &[9, 13, 14],
+        &[9, 13, 14, 16],
         &[In("layout"), In("codes"), Out("out")],
     ),
     describe(
@@ -158,25 +158,25 @@ pub static ENTRIES: [Description; 19] = [
     describe(
         Entry::CardRead,
         "imurraqi_card_read",
-        &[1, 7, 8, 9, 10],
+        &[1, 7, 8, 9, 10, 16],
         &[In("card"), Out("layout"), Out("facts")],
     ),
     describe(
         Entry::CardWrite,
         "imurraqi_card_write",
-        &[7, 9, 11, 13],
+        &[7, 9, 11, 13, 16],
         &[In("layout"), Out("out")],
     ),
     describe(
         Entry::CardRewrite,
         "imurraqi_card_rewrite",
-        &[1, 7, 8, 9, 10, 13],
+        &[1, 7, 8, 9, 10, 13, 16],
         &[In("card"), Out("out")],
     ),
     describe(
         Entry::Replay,
         "imurraqi_replay",
-        &[7, 9, 11, 13],
+        &[7, 9, 11, 13, 16],
         &[
             In("layout"),
             Out("card"),

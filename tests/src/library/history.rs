@@ -31,8 +31,8 @@ pub type Replay = fn(&mut Replaying) -> i64;
 
 pub fn replay<M: Memory>(asked: &mut Replaying) -> i64 {
     let mut memory = M::of(Entry::Replay);
-    // SAFETY: the pointers are to as many elements as the lengths say, eight for
-    // the layout, thirteen and two for the last, and nothing else uses them.
+    // SAFETY: the pointers are to as many elements as the lengths say, nine for
+    // the layout, fourteen and two for the last, and nothing else uses them.
     let answer = unsafe {
         ffi::imurraqi_replay(
             asked.first,

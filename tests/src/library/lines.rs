@@ -11,7 +11,7 @@ use super::{whole, Layout};
 
 pub fn unpack_line<M: Memory>(layout: Layout, packed: &[u8], codes: &mut Guarded<u16>) -> i64 {
     let mut memory = M::of(Entry::UnpackLine);
-    // SAFETY: the pointers are to as many elements as the lengths say, eight for
+    // SAFETY: the pointers are to as many elements as the lengths say, nine for
     // the layout, and nothing else uses the output.
     let answer = unsafe {
         ffi::imurraqi_unpack_line(

@@ -1,9 +1,9 @@
 //! How many values of a line are cut: none, one in each place, all, and all but one, at
-//! lengths around whole turns of eight points; and the count by single values. This asks
-//! the library alone: the reference has no part in it.
+//! lengths around whole turns of eight points or groups; and the count by single values.
+//! This asks the library alone: the reference has no part in it.
 
 use crate::guarded::Outcome;
-use crate::layouts::{self, bytes_a_point};
+use crate::layouts::{self, bytes_a_point, is_grouped, is_looked_at, packed_length, points_each};
 use crate::library::{Layout, Library, CUTS, EMPTY_SLOT};
 use crate::quantization::floats::around_ends;
 use crate::quantization::scale_of;
@@ -11,9 +11,9 @@ use crate::random::Random;
 use crate::tally::{Flow, Tally};
 
 use super::inputs;
-use super::{packed_length, MOST_POINTS};
+use super::MOST_POINTS;
 
-/// Up to four turns, and a point less and more than each.
+/// Points or groups: up to four turns, and one less and more than each.
 const LENGTHS: [usize; 15] = [0, 1, 2, 7, 8, 9, 15, 16, 17, 23, 24, 25, 31, 32, 33];
 
 /// On every scale this is far inside.
@@ -29,12 +29,12 @@ const BEYOND: [f32; 6] = [
     f32::MAX,
 ];
 
-/// With every size of a point, and on every scale.
+/// With every size of a point, on every scale, and in groups.
 pub fn short_lines(library: &Library, tally: &mut Tally) -> Flow {
     let longest = layouts::one_of_each_size().filter(|&layout| bytes_a_point(layout) == 8);
     let on_every_scale = longest.flat_map(layouts::on_every_scale);
-    for layout in layouts::one_of_each_size().chain(on_every_scale) {
-        for points in LENGTHS {
+    for layout in layouts::one_of_each_size_and_groups().chain(on_every_scale) {
+        for points in LENGTHS.map(|length| length * points_each(layout)) {
             in_each_place(library, tally, layout, points, 0..3 * points)?;
         }
     }
@@ -43,13 +43,14 @@ pub fn short_lines(library: &Library, tally: &mut Tally) -> Flow {
 
 /// The places of the last two turns, and of the longest some alone.
 pub fn long_lines(library: &Library, tally: &mut Tally) -> Flow {
-    for layout in layouts::one_of_each_size() {
-        for points in [255, 260] {
-            let places = 3 * (points - 16)..3 * points;
+    for layout in layouts::one_of_each_size_and_groups() {
+        let each = points_each(layout);
+        for points in [255 * each, 260 * each] {
+            let places = 3 * (points - 16 * each)..3 * points;
             in_each_place(library, tally, layout, points, places)?;
         }
-        for points in [MOST_POINTS - 1, MOST_POINTS] {
-            let places = [0, 3 * (points - 8), 3 * points - 1];
+        for points in [MOST_POINTS - each, MOST_POINTS] {
+            let places = [0, 3 * (points - 8), 3 * points - 3, 3 * points - 1];
             in_each_place(library, tally, layout, points, places.into_iter())?;
         }
     }
@@ -59,27 +60,29 @@ pub fn long_lines(library: &Library, tally: &mut Tally) -> Flow {
 /// As many as the library's own answers to the single values say.
 pub fn by_single_values(library: &Library, tally: &mut Tally) -> Flow {
     let mut random = Random::new();
-    for layout in layouts::one_of_each_size().flat_map(layouts::on_every_scale) {
-        for points in [1, 7, 9, 100] {
-            let values = inputs::values(points, &mut random);
+    for layout in layouts::all_scales_and_groups() {
+        let each = points_each(layout);
+        for length in [1, 7, 9, 100] {
+            let values = inputs::values(length * each, &mut random);
             compare_by_single_values(library, tally, layout, &values)?;
         }
         let [model, _, range, depth, ..] = layout;
         let values: Vec<f32> = [0, 1]
             .into_iter()
             .flat_map(|channel| around_ends(scale_of([model, range, depth, channel])))
-            .flat_map(|bits| [f32::from_bits(bits); 3])
+            .flat_map(|bits| vec![f32::from_bits(bits); 3 * each])
             .collect();
         compare_by_single_values(library, tally, layout, &values)?;
     }
-    for layout in layouts::one_of_each_size() {
+    for layout in layouts::one_of_each_size_and_groups() {
         let values = inputs::values(MOST_POINTS, &mut random);
         compare_by_single_values(library, tally, layout, &values)?;
     }
     Flow::Continue(())
 }
 
-/// A line of values inside with one beyond, and of values beyond with one inside.
+/// A line of values inside with one beyond, and of values beyond with one inside. Where
+/// the one is not looked at, it makes no difference.
 fn in_each_place(
     library: &Library,
     tally: &mut Tally,
@@ -87,24 +90,26 @@ fn in_each_place(
     points: usize,
     places: impl Iterator<Item = usize>,
 ) -> Flow {
-    let all = 3 * points;
-    let mut none = vec![INSIDE; all];
-    let mut every: Vec<f32> = BEYOND.into_iter().cycle().take(all).collect();
+    let looked_at = |place: &usize| is_looked_at(layout, *place);
+    let all = (0..3 * points).filter(looked_at).count();
+    let mut none = vec![INSIDE; 3 * points];
+    let mut every: Vec<f32> = BEYOND.into_iter().cycle().take(3 * points).collect();
     has_cuts(library, tally, layout, &none, 0)?;
     has_cuts(library, tally, layout, &every, all)?;
     for place in places {
         let value = every[place];
+        let cut = usize::from(looked_at(&place));
         none[place] = value;
         every[place] = INSIDE;
-        has_cuts(library, tally, layout, &none, 1)?;
-        has_cuts(library, tally, layout, &every, all - 1)?;
+        has_cuts(library, tally, layout, &none, cut)?;
+        has_cuts(library, tally, layout, &every, all - cut)?;
         none[place] = INSIDE;
         every[place] = value;
     }
     Flow::Continue(())
 }
 
-/// The line, and each of its points alone.
+/// The line, and each of its points or groups alone.
 fn compare_by_single_values(
     library: &Library,
     tally: &mut Tally,
@@ -112,27 +117,31 @@ fn compare_by_single_values(
     values: &[f32],
 ) -> Flow {
     let mut sum = 0_u32;
-    let (points, _) = values.as_chunks();
-    for &point in points {
-        let cuts = cuts_of(library, layout, point);
-        let told = Outcome::with_cuts(packed_length(layout, 1), |out| {
-            (library.encode_point)(layout, point, out)
+    for alone in values.chunks(3 * points_each(layout)) {
+        let cuts = cuts_of(library, layout, alone);
+        let told = Outcome::with_cuts(bytes_a_point(layout), |out| match *alone {
+            [first, second, third] if !is_grouped(layout) => {
+                (library.encode_point)(layout, [first, second, third], out)
+            }
+            _ => (library.encode_line)(layout, alone, out),
         });
         let told = told.cuts[CUTS];
         tally.compare(told == cuts, || {
-            format!("encode a point {layout:?}, {point:?}: {told:x} cut, must be {cuts}")
+            format!("encode {layout:?}, {alone:?} alone: {told:x} cut, must be {cuts}")
         })?;
         sum = sum.wrapping_add(cuts);
     }
     has_cuts(library, tally, layout, values, sum as usize)
 }
 
-/// How many of a point's values are cut, by the single values.
-fn cuts_of(library: &Library, layout: Layout, point: [f32; 3]) -> u32 {
+/// How many of the values that are looked at are cut, by the single values.
+fn cuts_of(library: &Library, layout: Layout, values: &[f32]) -> u32 {
     let [model, _, range, depth, ..] = layout;
-    let values = [0, 1, 2].into_iter().zip(point);
-    let cuts = values.map(|(channel, value)| {
+    let places = (0..).zip(values);
+    let looked_at = places.filter(|&(place, _)| is_looked_at(layout, place));
+    let cuts = looked_at.map(|(place, &value)| {
         let mut slot = EMPTY_SLOT;
+        let channel = (place % 3) as u8;
         (library.quantize)([model, range, depth, channel], value, &mut slot);
         slot[CUTS]
     });

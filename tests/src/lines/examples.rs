@@ -26,7 +26,7 @@ const UNDER_AN_EIGHTH: f32 = 0.125 - 1.0 / 134_217_728.0;
 const EXAMPLES: [Example; 11] = [
     Example {
         name: "M1, M3, M2, a byte each",
-        layout: [2, 1, 1, 8, 3, 0, 8, 16],
+        layout: [2, 1, 1, 8, 3, 0, 8, 16, 0],
         values: [1.0, 0.5, -0.5],
         codes: [235, 240, 16],
         decoded: [1.0, 0.5, -0.5],
@@ -36,7 +36,7 @@ const EXAMPLES: [Example; 11] = [
     },
     Example {
         name: "M6, M4, M5, a byte each, the last channel first",
-        layout: [2, 3, 2, 8, 4, 24, 8, 0],
+        layout: [2, 3, 2, 8, 4, 24, 8, 0, 0],
         values: [-0.25, 0.5, -0.5],
         codes: [0, 255, 1],
         decoded: [0.0, 127.0 / 255.0, -127.0 / 255.0],
@@ -47,7 +47,7 @@ const EXAMPLES: [Example; 11] = [
     // 173 * 2^20 + 174 * 2^10 + 940 = 0x0ad2bbac.
     Example {
         name: "M8, M7, and the narrow top, the last channel lowest",
-        layout: [1, 1, 1, 10, 4, 20, 10, 0],
+        layout: [1, 1, 1, 10, 4, 20, 10, 0, 0],
         values: [UNDER_AN_EIGHTH, 0.125, 1.0],
         codes: [173, 174, 940],
         decoded: [109.0 / 876.0, 110.0 / 876.0, 1.0],
@@ -58,7 +58,7 @@ const EXAMPLES: [Example; 11] = [
     // 4095 * 2^52 + 2048 * 2^12 + 2048 = 0xfff0000000800800.
     Example {
         name: "M9, and a field at the very top",
-        layout: [2, 4, 2, 12, 8, 52, 0, 12],
+        layout: [2, 4, 2, 12, 8, 52, 0, 12, 0],
         values: [1.0, 0.0, 0.0],
         codes: [4095, 2048, 2048],
         decoded: [1.0, 0.0, 0.0],
@@ -69,7 +69,7 @@ const EXAMPLES: [Example; 11] = [
     // 256 * 0.3 = 76.8; 256 (0.1 + 1/2) = 153.6.
     Example {
         name: "an early capture, a byte each",
-        layout: [2, 2, 3, 8, 3, 0, 8, 16],
+        layout: [2, 2, 3, 8, 3, 0, 8, 16, 0],
         values: [0.3, -0.5, 0.1],
         codes: [77, 0, 154],
         decoded: [77.0 / 256.0, -0.5, 26.0 / 256.0],
@@ -80,7 +80,7 @@ const EXAMPLES: [Example; 11] = [
     // 4092 is 0xffc: 0xffc * 2^24 + 0xffc * 2^12 + 0x001.
     Example {
         name: "the older full range's top, the last channel highest",
-        layout: [2, 4, 3, 12, 5, 0, 12, 24],
+        layout: [2, 4, 3, 12, 5, 0, 12, 24, 0],
         values: [1.0 / 4096.0, 0.5, f32::INFINITY],
         codes: [1, 4092, 4092],
         decoded: [1.0 / 4096.0, 2044.0 / 4096.0, 2044.0 / 4096.0],
@@ -91,7 +91,7 @@ const EXAMPLES: [Example; 11] = [
     // 16 + 219 * 2 = 454, 128 - 224 = -96.
     Example {
         name: "the ends of narrow range, a byte each",
-        layout: [2, 1, 1, 8, 3, 0, 8, 16],
+        layout: [2, 1, 1, 8, 3, 0, 8, 16, 0],
         values: [2.0, -1.0, f32::INFINITY],
         codes: [254, 1, 254],
         decoded: [238.0 / 219.0, -127.0 / 224.0, 126.0 / 224.0],
@@ -102,7 +102,7 @@ const EXAMPLES: [Example; 11] = [
     // 4 (16 + 219 * 1.25) = 1159, 4 (16 - 219 / 4) = -155: 4 * 2^20 + 4 * 2^10 + 1019.
     Example {
         name: "the ends of narrow range at 10 bits, the last channel lowest",
-        layout: [1, 4, 1, 10, 4, 20, 10, 0],
+        layout: [1, 4, 1, 10, 4, 20, 10, 0, 0],
         values: [f32::NEG_INFINITY, -0.25, 1.25],
         codes: [4, 4, 1019],
         decoded: [-60.0 / 876.0, -60.0 / 876.0, 955.0 / 876.0],
@@ -113,7 +113,7 @@ const EXAMPLES: [Example; 11] = [
     // 16 (128 + 224 * 0.75) = 4736: 16 * 2^24 + 0xfef * 2^12 + 16, and 4079 is 0xfef.
     Example {
         name: "the ends of narrow range at 12 bits",
-        layout: [2, 2, 1, 12, 5, 0, 12, 24],
+        layout: [2, 2, 1, 12, 5, 0, 12, 24, 0],
         values: [-0.25, 0.75, -0.75],
         codes: [16, 4079, 16],
         decoded: [-240.0 / 3504.0, 2031.0 / 3584.0, -2032.0 / 3584.0],
@@ -124,7 +124,7 @@ const EXAMPLES: [Example; 11] = [
     // Each end is its own number, and is not cut.
     Example {
         name: "the ends of narrow range by their own values",
-        layout: [2, 1, 1, 8, 3, 0, 8, 16],
+        layout: [2, 1, 1, 8, 3, 0, 8, 16, 0],
         values: [238.0 / 219.0, -127.0 / 224.0, 126.0 / 224.0],
         codes: [254, 1, 254],
         decoded: [238.0 / 219.0, -127.0 / 224.0, 126.0 / 224.0],
@@ -136,7 +136,7 @@ const EXAMPLES: [Example; 11] = [
     // 256, both cut.
     Example {
         name: "half a code beyond the older full range, the last channel first",
-        layout: [1, 3, 3, 8, 3, 16, 8, 0],
+        layout: [1, 3, 3, 8, 3, 16, 8, 0, 0],
         values: [-0.5 / 256.0, -0.75 / 256.0, 255.5 / 256.0],
         codes: [0, 0, 255],
         decoded: [0.0, 0.0, 255.0 / 256.0],

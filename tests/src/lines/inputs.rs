@@ -1,6 +1,6 @@
 //! Random lines.
 
-use crate::layouts::{bytes_a_point, DEPTH};
+use crate::layouts::{packed_length, DEPTH};
 use crate::library::Layout;
 use crate::quantization::floats::of_moderate_size;
 use crate::random::Random;
@@ -22,7 +22,7 @@ pub fn line(layout: Layout, points: usize, random: &mut Random) -> Line {
 
 /// Any bytes at all, so unused bits are set too.
 pub fn packed(layout: Layout, points: usize, random: &mut Random) -> Vec<u8> {
-    (0..points * bytes_a_point(layout))
+    (0..packed_length(layout, points))
         .map(|_| random.next() as u8)
         .collect()
 }

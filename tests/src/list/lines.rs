@@ -3,23 +3,24 @@
 use crate::card::cards;
 use crate::card::{Card, ACCESS, ITEM, SIZE, WRITTEN};
 use crate::library::Library;
-use crate::stack::stacks::{card_of, older_card_of, refused_cards_of};
+use crate::stack::stacks::{card_of, card_of_groups, older_card_of, refused_cards_of};
 use crate::stack::MOST_CARDS;
 use crate::tally::{Flow, Tally};
 
 use super::compare_list;
 
-/// Every access number, from editions 1, 2, 3 and later ones, alone and with a byte
-/// after it, of cards that every edition reads and that only edition 3 does.
+/// Every access number, from editions 1 to 4 and later ones, alone and with a byte
+/// after it, of cards that every edition reads, that 3 and 4 do, and that only 4 does.
 pub fn access(library: &Library, tally: &mut Tally) -> Flow {
-    for written in [1, 2, 3, 4, 255] {
+    for written in [1, 2, 3, 4, 5, 255] {
         for after in [0, 1] {
-            let cards = (0..=511).map(|number: u16| {
+            let cards = (0..=767).map(|number: u16| {
                 let access = number as u8;
                 let item = 1 + u64::from(number);
                 let mut card = match number {
                     0..=255 => card_of(item, 0),
-                    _ => older_card_of(item, usize::from(access)),
+                    256..=511 => older_card_of(item, usize::from(access)),
+                    _ => card_of_groups(item, usize::from(access)),
                 };
                 card[WRITTEN] = written;
                 card[ACCESS] = access;
@@ -32,7 +33,8 @@ pub fn access(library: &Library, tally: &mut Tally) -> Flow {
     Flow::Continue(())
 }
 
-/// Numbers of every count of digits, and those around them; every width and height.
+/// Numbers of every count of digits, and those around them; every width and height, of
+/// points and of groups, whose widths are even.
 pub fn sizes_and_items(library: &Library, tally: &mut Tally) -> Flow {
     let powers = (0..20).map(|exponent| 10u64.pow(exponent));
     let items = powers.flat_map(|power| [power - 1, power, power + 1]);
@@ -43,13 +45,16 @@ pub fn sizes_and_items(library: &Library, tally: &mut Tally) -> Flow {
         card
     });
     compare_all(library, tally, items)?;
-    let sides = (0u16..=4100).map(|side| {
-        let mut card = card_of(u64::from(side) + 1, usize::from(side));
-        card[12..14].copy_from_slice(&side.to_le_bytes());
-        card[14..16].copy_from_slice(&(4097 - side.min(4097)).to_le_bytes());
-        card
-    });
-    compare_all(library, tally, sides)
+    for card_of in [card_of, card_of_groups] {
+        let sides = (0u16..=4100).map(|side| {
+            let mut card = card_of(u64::from(side) + 1, usize::from(side));
+            card[12..14].copy_from_slice(&side.to_le_bytes());
+            card[14..16].copy_from_slice(&(4097 - side.min(4097)).to_le_bytes());
+            card
+        });
+        compare_all(library, tally, sides)?;
+    }
+    Flow::Continue(())
 }
 
 /// Every refusal that a card has, among good cards.

@@ -61,6 +61,8 @@ unsafe fn touch(access: Access, start: *mut u8, bytes: usize) {
         ReadsAfter => drop(end.read_volatile()),
         WritesBefore => before.write_volatile(0),
         WritesAfter => end.write_volatile(0),
+        // Where nothing is lent there is nothing to write into: a later call has something.
+        WritesInto if bytes == 0 => {}
         WritesInto => start.write_volatile(0),
     }
 }

@@ -5,7 +5,7 @@ use reference::card::Facts;
 
 use crate::card::{Card, ACCESS, LEAST, SIZE, WRITTEN};
 use crate::guarded::Guarded;
-use crate::layouts::{DEPTH, LEGACY, RANGE};
+use crate::layouts::{is_grouped, DEPTH, LEGACY, RANGE};
 use crate::library::card::Told;
 
 use super::layout::is_valid;
@@ -21,12 +21,13 @@ pub struct Asked {
 /// A refusal's number and when it is given, in reading.
 pub type Row = (i64, fn(&Asked) -> bool);
 
-pub const READING: [Row; 7] = [
+pub const READING: [Row; 8] = [
     (1, |asked| asked.length != SIZE),
-    (7, |asked| !(1..=3).contains(&asked.edition)),
+    (7, |asked| !is_known(asked.edition)),
     (9, |asked| asked.card[LEAST] == 0),
     (8, |asked| asked.card[LEAST] > asked.edition),
     (9, |asked| !is_good_to_byte_23(&asked.card)),
+    (16, |asked| is_odd(&stated(&asked.card, 0))),
     (10, |asked| asked.is_from_2_on() && asked.card[ACCESS] > 2),
     (9, |asked| {
         let last = &asked.card[ACCESS..];
@@ -41,13 +42,14 @@ pub const READING: [Row; 7] = [
 /// length.
 pub type WritingRow = (i64, fn(u8, &Facts, usize) -> bool);
 
-pub const WRITING: [WritingRow; 4] = [
-    (7, |edition, _, _| !(1..=3).contains(&edition)),
+pub const WRITING: [WritingRow; 5] = [
+    (7, |edition, _, _| !is_known(edition)),
     (9, |_, facts, _| {
         !is_valid(facts.layout)
             || outside(facts.width, facts.height, facts.item)
             || facts.access > 2
     }),
+    (16, |_, facts, _| is_odd(facts)),
     (11, |edition, facts, _| {
         lacks_layout(edition, facts) || lacks_access(edition, facts)
     }),
@@ -75,12 +77,24 @@ impl Asked {
     }
 }
 
+pub fn is_known(edition: u8) -> bool {
+    [1, 2, 3, 4].contains(&edition)
+}
+
 pub fn lacks_layout(edition: u8, facts: &Facts) -> bool {
+    let older = facts.layout[RANGE] == LEGACY;
+    let groups = is_grouped(facts.layout);
     match edition {
-        1 => facts.layout[DEPTH] == 12 || facts.layout[RANGE] == LEGACY,
-        2 => facts.layout[RANGE] == LEGACY,
+        1 => facts.layout[DEPTH] == 12 || older || groups,
+        2 => older || groups,
+        3 => groups,
         _ => false,
     }
+}
+
+/// Whether a line of the picture is not of whole groups.
+pub fn is_odd(facts: &Facts) -> bool {
+    is_grouped(facts.layout) && facts.width & 1 == 1
 }
 
 pub fn lacks_access(edition: u8, facts: &Facts) -> bool {
@@ -133,11 +147,10 @@ pub fn written(
     {
         return -number;
     }
-    let [model, primaries, range, depth, bytes, first, second, third] = facts.layout;
+    let [model, primaries, range, depth, bytes, first, second, third, sampling] = facts.layout;
     let mut card = vec![least(edition, facts), edition];
-    card.extend([
-        model, primaries, range, depth, bytes, 0, first, second, third, 0,
-    ]);
+    card.extend([model, primaries, range, depth, bytes, sampling]);
+    card.extend([first, second, third, 0]);
     for side in [facts.width, facts.height] {
         card.extend([side as u8, (side >> 8) as u8]);
     }
@@ -149,10 +162,10 @@ pub fn written(
 
 /// Byte 0 of facts that are valid.
 pub fn least(_: u8, facts: Facts) -> u8 {
-    let editions = 1..=3;
+    let editions = 1..=4;
     editions
         .filter(|&edition| !lacks_layout(edition, &facts))
-        .fold(3, u8::min)
+        .fold(4, u8::min)
 }
 
 /// Rewrites with the given rows and access: the bytes up to 23 are the same but for
@@ -182,7 +195,7 @@ pub fn rewritten(
 /// The facts that a card states, good or not.
 pub fn stated(card: &Card, access: u8) -> Facts {
     Facts {
-        layout: [2, 3, 4, 5, 6, 8, 9, 10].map(|place| card[place]),
+        layout: [2, 3, 4, 5, 6, 8, 9, 10, 7].map(|place| card[place]),
         width: u16::from(card[12]) + 256 * u16::from(card[13]),
         height: u16::from(card[14]) + 256 * u16::from(card[15]),
         item: (0..8)
@@ -196,7 +209,7 @@ fn is_good_to_byte_23(card: &Card) -> bool {
     let facts = stated(card, 0);
     card[WRITTEN] >= card[LEAST]
         && card[LEAST] == least(card[WRITTEN], facts)
-        && [card[7], card[11]] == [0, 0]
+        && card[11] == 0
         && !outside(facts.width, facts.height, facts.item)
         && is_valid(facts.layout)
 }

@@ -9,7 +9,7 @@ use crate::layouts::{BYTES, DEPTH, MODEL, OFFSETS, PRIMARIES, RANGE};
 use crate::library::Layout;
 use crate::quantization::refused;
 
-use super::layout::is_valid;
+use super::layout::is_of_points;
 
 /// The channels in the order of their samples.
 pub type Order = fn(Layout) -> [usize; 3];
@@ -34,7 +34,7 @@ pub fn limits(layout: Layout, channel: usize) -> [u32; 2] {
 
 /// Writes with the given order and limits.
 pub fn written(layout: Layout, out: &mut Guarded<u8>, order: Order, limits: Limits) -> i64 {
-    if !is_valid(layout) {
+    if !is_of_points(layout) {
         return refused(Refusal::Outside);
     }
     if out.length() != SIZE {
@@ -50,17 +50,17 @@ pub fn read(bytes: &[u8], out: &mut Guarded<u8>, order: Order, limits: Limits) -
         return refused(Refusal::Size);
     };
     // What does not depend on the samples is tried in a simple layout.
-    let colored = [bytes[12], bytes[13], 1, 8, 3, 0, 8, 16];
-    let sized = [1, 1, 1, 8, bytes[20], 0, 8, 16];
+    let colored = [bytes[12], bytes[13], 1, 8, 3, 0, 8, 16, 0];
+    let sized = [1, 1, 1, 8, bytes[20], 0, 8, 16, 0];
     let [like_colored, like_sized] = [colored, sized].map(|layout| formed(layout, order, limits));
     let layout = stated(bytes);
     if bytes[..12] != like_sized[..12] {
         refused(Refusal::Header)
-    } else if !is_valid(colored) || bytes[12..16] != like_colored[12..16] {
+    } else if !is_of_points(colored) || bytes[12..16] != like_colored[12..16] {
         refused(Refusal::Color)
-    } else if !is_valid(sized) || bytes[16..28] != like_sized[16..28] {
+    } else if !is_of_points(sized) || bytes[16..28] != like_sized[16..28] {
         refused(Refusal::TexelBlock)
-    } else if !is_valid(layout) || !same_fields(bytes, &formed(layout, order, limits)) {
+    } else if !is_of_points(layout) || !same_fields(bytes, &formed(layout, order, limits)) {
         refused(Refusal::Sample)
     } else {
         let ranges = [1, 2, 3].map(|range| with_range(layout, range));
@@ -101,7 +101,7 @@ pub fn formed(layout: Layout, order: Order, limits: Limits) -> [u8; SIZE] {
 /// The layout that a descriptor states if it is one, but for its range: narrow.
 pub fn stated(bytes: &[u8; SIZE]) -> Layout {
     let depth = bytes[30].wrapping_add(1);
-    let mut layout = [bytes[12], bytes[13], 1, depth, bytes[20], 0, 0, 0];
+    let mut layout = [bytes[12], bytes[13], 1, depth, bytes[20], 0, 0, 0, 0];
     for sample in bytes[28..].chunks(16) {
         if let channel @ 0..=2 = sample[3] {
             layout[OFFSETS + usize::from(channel)] = sample[0];

@@ -7,7 +7,7 @@ use crate::layouts::{bytes_a_point, DEPTH};
 use crate::library::Layout;
 use crate::quantization::refused;
 
-use super::layout::is_valid;
+use super::layout::is_of_points;
 use super::lines::{load_fields, place};
 
 /// The place of the first byte that holds a channel's field, and how many do.
@@ -50,5 +50,5 @@ pub fn taken(layout: Layout, channel: u8, bytes: &[u8], held: Held) -> i64 {
 }
 
 fn is_outside(layout: Layout, channel: u8) -> bool {
-    !is_valid(layout) || ![0, 1, 2].contains(&channel)
+    !is_of_points(layout) || ![0, 1, 2].contains(&channel)
 }

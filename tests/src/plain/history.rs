@@ -37,11 +37,13 @@ pub fn replayed(asked: &mut Replaying, library: &Library) -> i64 {
     let mut decoded = [answer.unsigned_abs(), 0];
     read[0] = answer.unsigned_abs();
     if answer == 0 {
-        for (number, &byte) in read[1..9].iter_mut().zip(told.layout.elements()) {
-            *number = byte.into();
+        let bytes = told.layout.elements().iter();
+        let numbers = bytes.map(|&byte| byte.into());
+        let facts = told.facts.elements().iter().copied();
+        for (place, number) in read[1..].iter_mut().zip(numbers.chain(facts)) {
+            *place = number;
         }
-        read[9..].copy_from_slice(told.facts.elements());
-        let layout = told.layout.elements().try_into().expect("eight numbers");
+        let layout = told.layout.elements().try_into().expect("nine numbers");
         decoded = match (library.decode_line)(layout, asked.packed.elements(), &mut asked.values) {
             points @ 0.. => [0, points as u64],
             refused => [refused.unsigned_abs(), 0],

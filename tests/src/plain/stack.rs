@@ -3,7 +3,7 @@
 use crate::card::{ITEM, SIZE};
 use crate::guarded::Guarded;
 
-use super::card::{refusal, shown, stated, Asked, READING};
+use super::card::{is_known, refusal, shown, stated, Asked, READING};
 
 const MOST_CARDS: usize = 1024;
 
@@ -14,7 +14,7 @@ pub fn found(stack: &mut Guarded<u8>, edition: u8, item: u64) -> i64 {
     if is_refused(stack) {
         return -1;
     }
-    if !(1..=3).contains(&edition) {
+    if !is_known(edition) {
         return -7;
     }
     let mut found = -15;
@@ -43,7 +43,7 @@ pub fn listed(
     number(&mut text, (stack.len() / SIZE) as u64);
     for card in stack.chunks(SIZE) {
         text.push(b'\n');
-        let asked = Asked::new(card, 3);
+        let asked = Asked::new(card, 4);
         match refusal(&asked, &READING) {
             0 => {
                 let facts = stated(&asked.card, shown(&asked));

@@ -5,7 +5,9 @@ use crate::library::Library;
 use crate::random::Random;
 use crate::tally::{Flow, Tally};
 
-use super::stacks::{self, card_of, card_of_12_bits, counted, older_card_of, refused_cards_of};
+use super::stacks::{
+    self, card_of, card_of_12_bits, card_of_groups, counted, older_card_of, refused_cards_of,
+};
 use super::{compare_find, MOST_CARDS};
 
 const RANDOM_STACKS: usize = 3000;
@@ -20,6 +22,7 @@ pub fn after_refused(library: &Library, tally: &mut Tally) -> Flow {
     refused.extend(refused_cards_of(8));
     refused.push(card_of_12_bits(7));
     refused.extend([0, 1, 2].map(|turn| older_card_of(7, turn)));
+    refused.push(card_of_groups(7, 1));
     refused.push([0; 32]);
     refused.push([255; 32]);
     for bad in refused {

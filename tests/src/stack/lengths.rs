@@ -4,7 +4,9 @@ use crate::card::SIZE;
 use crate::library::Library;
 use crate::tally::{Flow, Tally};
 
-use super::stacks::{card_of, card_of_12_bits, counted, older_card_of, refused_cards_of};
+use super::stacks::{
+    card_of, card_of_12_bits, card_of_groups, counted, older_card_of, refused_cards_of,
+};
 use super::{compare_find, MOST_CARDS};
 
 /// Numbers of cards: few, the most and more. A length cut to 16 bits would take
@@ -18,7 +20,7 @@ pub fn lengths(library: &Library, tally: &mut Tally) -> Flow {
         let stack = counted(cards + 1);
         for more in 0..SIZE {
             for item in [1, cards as u64, cards as u64 + 1, 0] {
-                for edition in [1, 2, 3, 0, 4] {
+                for edition in [1, 2, 3, 4, 0, 5] {
                     let stack = &stack[..cards * SIZE + more];
                     compare_find(library, tally, stack, edition, item)?;
                 }
@@ -32,6 +34,7 @@ pub fn lengths(library: &Library, tally: &mut Tally) -> Flow {
 pub fn editions(library: &Library, tally: &mut Tally) -> Flow {
     let mixed = [
         card_of(1, 0),
+        card_of_groups(7, 0),
         older_card_of(7, 0),
         card_of_12_bits(7),
         card_of(7, 1),

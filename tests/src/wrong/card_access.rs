@@ -185,7 +185,7 @@ pub const WRONG: &[Wrong] = &[
         }
     }),
     reads("an access above 2 closed at 2", |card, edition, told| {
-        let rows = rows([0, 1, 2, 3, 4, 6]);
+        let rows = rows([0, 1, 2, 3, 4, 5, 7]);
         read(card, edition, told, &rows, shown)
     }),
     // Bytes 24 to 31.

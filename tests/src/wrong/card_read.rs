@@ -1,6 +1,6 @@
 //! Mistakes in reading cards, but for their access.
 
-use crate::card::{expected_read, ACCESS, DEPTH, ITEM, LEAST, RANGE, WRITTEN};
+use crate::card::{expected_read, ACCESS, DEPTH, ITEM, LEAST, RANGE, SAMPLING, WRITTEN};
 use crate::guarded::Guarded;
 use crate::layouts::{self, LEGACY, OFFSETS};
 use crate::library::card::Told;
@@ -30,8 +30,8 @@ pub const WRONG: &[Wrong] = &[
         let row: Row = (8, |asked| asked.card[WRITTEN] > asked.edition);
         read(card, edition, told, &exchanged(TOO_NEW, row), shown)
     }),
-    reads("8 for byte 0 above 3 only", |card, edition, told| {
-        let row: Row = (8, |asked| asked.card[LEAST] > 3);
+    reads("8 for byte 0 above 4 only", |card, edition, told| {
+        let row: Row = (8, |asked| asked.card[LEAST] > 4);
         read(card, edition, told, &exchanged(TOO_NEW, row), shown)
     }),
     reads(
@@ -42,18 +42,18 @@ pub const WRONG: &[Wrong] = &[
         },
     ),
     reads("8 left out", |card, edition, told| {
-        read(card, edition, told, &rows([0, 1, 2, 4, 5, 6]), shown)
+        read(card, edition, told, &rows([0, 1, 2, 4, 5, 6, 7]), shown)
     }),
     reads("byte 0 too high accepted", |card, edition, told| {
         changed(card, edition, told, |card| {
-            if card[LEAST] == 2 && edition == 2 && card[DEPTH] != 12 && card[WRITTEN] >= 2 {
+            if card[LEAST] == 2 && edition >= 2 && card[DEPTH] != 12 && card[WRITTEN] >= 2 {
                 card[LEAST] = 1;
             }
         })
     }),
     reads("byte 0 too low accepted", |card, edition, told| {
         changed(card, edition, told, |card| {
-            if card[LEAST] == 1 && edition == 2 && card[DEPTH] == 12 {
+            if card[LEAST] == 1 && edition >= 2 && card[DEPTH] == 12 {
                 card[LEAST] = 2;
             }
         })
@@ -64,7 +64,7 @@ pub const WRONG: &[Wrong] = &[
             changed(card, edition, told, |card| {
                 if card[RANGE] == LEGACY && card[DEPTH] != 12 {
                     card[LEAST] = match card[LEAST] {
-                        1 if edition == 3 => 3,
+                        1 if edition >= 3 => 3,
                         3 => 1,
                         least => least,
                     };
@@ -76,7 +76,7 @@ pub const WRONG: &[Wrong] = &[
         "byte 0 of 2 for early captures of 12 bits",
         |card, edition, told| {
             changed(card, edition, told, |card| {
-                if card[RANGE] == LEGACY && card[DEPTH] == 12 && card[LEAST] == 2 && edition == 3 {
+                if card[RANGE] == LEGACY && card[DEPTH] == 12 && card[LEAST] == 2 && edition >= 3 {
                     card[LEAST] = 3;
                 }
             })
@@ -84,7 +84,7 @@ pub const WRONG: &[Wrong] = &[
     ),
     reads("byte 0 of 3 for any layout", |card, edition, told| {
         changed(card, edition, told, |card| {
-            if card[LEAST] == 3 && edition == 3 && card[RANGE] != LEGACY && card[WRITTEN] >= 3 {
+            if card[LEAST] == 3 && edition >= 3 && card[RANGE] != LEGACY && card[WRITTEN] >= 3 {
                 card[LEAST] = if card[DEPTH] == 12 { 2 } else { 1 };
             }
         })
@@ -174,10 +174,10 @@ pub const WRONG: &[Wrong] = &[
     ),
     // Bytes 2 to 23.
     reads("bytes 1 to 23 not looked at", |card, edition, told| {
-        read(card, edition, told, &rows([0, 1, 2, 3, 5, 6]), shown)
+        read(card, edition, told, &rows([0, 1, 2, 3, 5, 6, 7]), shown)
     }),
     reads("byte 7 not looked at", |card, edition, told| {
-        changed(card, edition, told, |card| card[7] = 0)
+        changed(card, edition, told, |card| card[SAMPLING] = 0)
     }),
     reads("byte 11 not looked at", |card, edition, told| {
         changed(card, edition, told, |card| card[11] = 0)
@@ -272,7 +272,7 @@ pub const WRONG: &[Wrong] = &[
     reads("offsets in rising order", |card, edition, told| {
         let answer = expected_read(card, edition, told);
         if answer == 0 {
-            told.layout.output()[OFFSETS..].sort();
+            told.layout.output()[OFFSETS..layouts::SAMPLING].sort();
         }
         answer
     }),

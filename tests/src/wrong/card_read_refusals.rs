@@ -13,11 +13,19 @@ pub const WRONG: &[Wrong] = &[
     reads("edition 0 taken for 1", |card, edition, told| {
         expected_read(card, edition.max(1), told)
     }),
-    reads("later editions taken for 3", |card, edition, told| {
-        expected_read(card, edition.min(3), told)
+    reads("later editions taken for 4", |card, edition, told| {
+        expected_read(card, edition.min(4), told)
     }),
     reads("edition 3 not known", |card, edition, told| {
-        let edition = if edition == 3 { 4 } else { edition };
+        let edition = if edition == 3 { 5 } else { edition };
+        expected_read(card, edition, told)
+    }),
+    reads("edition 4 not known", |card, edition, told| {
+        let edition = if edition == 4 { 5 } else { edition };
+        expected_read(card, edition, told)
+    }),
+    reads("edition 5 taken for 4", |card, edition, told| {
+        let edition = if edition == 5 { 4 } else { edition };
         expected_read(card, edition, told)
     }),
     reads("edition 4 taken for 3", |card, edition, told| {
@@ -61,7 +69,7 @@ pub const WRONG: &[Wrong] = &[
     }),
     // Memory.
     reads("the layout stored on a refusal", |card, edition, told| {
-        if let Some(layout) = card.elements().get(2..10) {
+        if let Some(layout) = card.elements().get(2..11) {
             told.layout.output().copy_from_slice(layout);
         }
         expected_read(card, edition, told)
@@ -79,10 +87,10 @@ pub const WRONG: &[Wrong] = &[
         told.facts.output()[3] = before;
         answer
     }),
-    reads("nine bytes of layout stored", |card, edition, told| {
+    reads("ten bytes of layout stored", |card, edition, told| {
         let answer = expected_read(card, edition, told);
         if answer == 0 {
-            told.layout.output_and_beyond()[8] = 0;
+            told.layout.output_and_beyond()[9] = 0;
         }
         answer
     }),
@@ -109,38 +117,38 @@ pub const WRONG: &[Wrong] = &[
     }),
     // The order of refusals.
     reads("7 before 1", |card, edition, told| {
-        read(card, edition, told, &rows([1, 0, 2, 3, 4, 5, 6]), shown)
+        read(card, edition, told, &rows([1, 0, 2, 3, 4, 5, 6, 7]), shown)
     }),
     reads("9 of byte 0 before 1", |card, edition, told| {
-        read(card, edition, told, &rows([2, 0, 1, 3, 4, 5, 6]), shown)
+        read(card, edition, told, &rows([2, 0, 1, 3, 4, 5, 6, 7]), shown)
     }),
     reads("9 of byte 0 before 7", |card, edition, told| {
-        read(card, edition, told, &rows([0, 2, 1, 3, 4, 5, 6]), shown)
+        read(card, edition, told, &rows([0, 2, 1, 3, 4, 5, 6, 7]), shown)
     }),
     reads("8 before 1", |card, edition, told| {
-        read(card, edition, told, &rows([3, 0, 1, 2, 4, 5, 6]), shown)
+        read(card, edition, told, &rows([3, 0, 1, 2, 4, 5, 6, 7]), shown)
     }),
     reads("8 before 7", |card, edition, told| {
-        read(card, edition, told, &rows([0, 3, 1, 2, 4, 5, 6]), shown)
+        read(card, edition, told, &rows([0, 3, 1, 2, 4, 5, 6, 7]), shown)
     }),
     reads("9 before 7", |card, edition, told| {
-        read(card, edition, told, &rows([0, 4, 1, 2, 3, 5, 6]), shown)
+        read(card, edition, told, &rows([0, 4, 1, 2, 3, 5, 6, 7]), shown)
     }),
     reads("9 before 8", |card, edition, told| {
-        read(card, edition, told, &rows([0, 1, 2, 4, 3, 5, 6]), shown)
+        read(card, edition, told, &rows([0, 1, 2, 4, 3, 5, 6, 7]), shown)
     }),
     reads("10 before 8", |card, edition, told| {
-        // At edition 2 or 3, with byte 0 above it.
-        read(card, edition, told, &rows([0, 1, 2, 5, 3, 4, 6]), shown)
+        // At edition 2 or later, with byte 0 above it.
+        read(card, edition, told, &rows([0, 1, 2, 6, 3, 4, 5, 7]), shown)
     }),
     reads("10 before 9", |card, edition, told| {
-        read(card, edition, told, &rows([0, 1, 2, 3, 5, 4, 6]), shown)
+        read(card, edition, told, &rows([0, 1, 2, 3, 6, 4, 5, 7]), shown)
     }),
     reads("9 of bytes 24 to 31 before 10", |card, edition, told| {
-        read(card, edition, told, &rows([0, 1, 2, 3, 4, 6, 5]), shown)
+        read(card, edition, told, &rows([0, 1, 2, 3, 4, 5, 7, 6]), shown)
     }),
     reads("9 of bytes 24 to 31 before 8", |card, edition, told| {
-        read(card, edition, told, &rows([0, 1, 2, 6, 3, 4, 5]), shown)
+        read(card, edition, told, &rows([0, 1, 2, 7, 3, 4, 5, 6]), shown)
     }),
     reads("every reading refused", |_, _, _| -9),
 ];

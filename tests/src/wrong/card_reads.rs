@@ -13,8 +13,9 @@ pub const LENGTH: usize = 0;
 pub const KNOWN_EDITION: usize = 1;
 pub const BYTE_0_IS_0: usize = 2;
 pub const TOO_NEW: usize = 3;
-pub const ACCESS_ABOVE_2: usize = 5;
-pub const LAST_BYTES: usize = 6;
+pub const ODD_WIDTH: usize = 5;
+pub const ACCESS_ABOVE_2: usize = 6;
+pub const LAST_BYTES: usize = 7;
 
 pub const fn reads(mistake: &'static str, card_read: CardRead) -> Wrong {
     let library = Library {
@@ -30,7 +31,7 @@ pub fn rows<const COUNT: usize>(order: [usize; COUNT]) -> [Row; COUNT] {
 }
 
 /// All rows, with one in the place of another.
-pub fn exchanged(place: usize, row: Row) -> [Row; 7] {
+pub fn exchanged(place: usize, row: Row) -> [Row; READING.len()] {
     let mut rows = READING;
     rows[place] = row;
     rows

@@ -131,7 +131,7 @@ pub const WRONG: &[Wrong] = &[
     ),
     rewrites("11 for 8", |card, edition, out| {
         match expected_rewrite(card, edition, out) {
-            -8 if edition < 3 => -11,
+            -8 if edition < 4 => -11,
             answer => answer,
         }
     }),
@@ -143,8 +143,16 @@ pub const WRONG: &[Wrong] = &[
         let edition = if edition == 4 { 3 } else { edition };
         expected_rewrite(card, edition, out)
     }),
+    rewrites("edition 5 rewrites as 4", |card, edition, out| {
+        let edition = if edition == 5 { 4 } else { edition };
+        expected_rewrite(card, edition, out)
+    }),
     rewrites("edition 3 rewrites nothing", |card, edition, out| {
-        let edition = if edition == 3 { 4 } else { edition };
+        let edition = if edition == 3 { 5 } else { edition };
+        expected_rewrite(card, edition, out)
+    }),
+    rewrites("edition 4 rewrites nothing", |card, edition, out| {
+        let edition = if edition == 4 { 5 } else { edition };
         expected_rewrite(card, edition, out)
     }),
     rewrites(
@@ -172,10 +180,10 @@ pub const WRONG: &[Wrong] = &[
         expected_rewrite(card, edition.max(1), out)
     }),
     rewrites("an unknown access accepted at 2", |card, edition, out| {
-        rewritten(card, edition, out, &rows([0, 1, 2, 3, 4, 6]), shown)
+        rewritten(card, edition, out, &rows([0, 1, 2, 3, 4, 5, 7]), shown)
     }),
     rewrites("last bytes not looked at", |card, edition, out| {
-        rewritten(card, edition, out, &rows([0, 1, 2, 3, 4, 5]), shown)
+        rewritten(card, edition, out, &rows([0, 1, 2, 3, 4, 5, 6]), shown)
     }),
     rewrites("64 bytes rewritten", |card, edition, out| {
         let length = match card.length() {
@@ -284,17 +292,17 @@ pub const WRONG: &[Wrong] = &[
         },
     ),
     rewrites("13 before 9 of bytes 24 to 31", |card, edition, out| {
-        let rows = rows([0, 1, 2, 3, 4, 5]);
+        let rows = rows([0, 1, 2, 3, 4, 5, 6]);
         match rewritten(card, edition, &mut out.clone(), &rows, shown) {
             -13 => -13,
             _ => expected_rewrite(card, edition, out),
         }
     }),
     rewrites("9 before 8, rewriting", |card, edition, out| {
-        rewritten(card, edition, out, &rows([0, 1, 2, 4, 3, 5, 6]), shown)
+        rewritten(card, edition, out, &rows([0, 1, 2, 4, 3, 5, 6, 7]), shown)
     }),
     rewrites("7 before 1, rewriting", |card, edition, out| {
-        rewritten(card, edition, out, &rows([1, 0, 2, 3, 4, 5, 6]), shown)
+        rewritten(card, edition, out, &rows([1, 0, 2, 3, 4, 5, 6, 7]), shown)
     }),
     rewrites(
         "every rewriting refused",
@@ -305,7 +313,7 @@ pub const WRONG: &[Wrong] = &[
     ),
 ];
 
-const fn rewrites(mistake: &'static str, card_rewrite: CardRewrite) -> Wrong {
+pub const fn rewrites(mistake: &'static str, card_rewrite: CardRewrite) -> Wrong {
     let library = Library {
         card_rewrite,
         ..REFERENCE

@@ -5,7 +5,7 @@ use reference::card::Facts;
 
 use crate::card::{expected_write, ACCESS, ITEM, SIZE, WRITTEN};
 use crate::guarded::Guarded;
-use crate::layouts::DEPTH;
+use crate::layouts::{DEPTH, OFFSETS};
 use crate::plain::card::{lacks_access, lacks_layout, least, written, WritingRow, WRITING};
 use crate::plain::layout::is_valid;
 
@@ -20,7 +20,7 @@ pub const WRONG: &[Wrong] = &[
     writes(
         "later editions write",
         |edition, facts, out| match edition {
-            4.. => stored(3, facts, out, |card| card[WRITTEN] = edition),
+            5.. => stored(4, facts, out, |card| card[WRITTEN] = edition),
             _ => expected_write(edition, facts, out),
         },
     ),
@@ -31,14 +31,21 @@ pub const WRONG: &[Wrong] = &[
             _ => expected_write(edition, facts, out),
         },
     ),
+    writes(
+        "edition 4 writes nothing",
+        |edition, facts, out| match edition {
+            4 => -7,
+            _ => expected_write(edition, facts, out),
+        },
+    ),
     // Refusal 9.
     writes("nothing outside the paper", |edition, facts, out| {
-        written(edition, facts, out, &rows([0, 2, 3]), least)
+        written(edition, facts, out, &rows([0, 2, 3, 4]), least)
     }),
     writes(
         "an access above 2 stored",
         |edition, facts, out| match facts.access {
-            3.. if edition == 2 || edition == 3 => {
+            3.. if (2..=4).contains(&edition) => {
                 let open = Facts { access: 2, ..facts };
                 let answer = expected_write(edition, open, out);
                 if answer == 0 {
@@ -109,7 +116,7 @@ pub const WRONG: &[Wrong] = &[
     }),
     writes("height 4,096 refused", |edition, facts, out| {
         match facts.height {
-            4096 if (1..=3).contains(&edition) => -9,
+            4096 if (1..=4).contains(&edition) => -9,
             _ => expected_write(edition, facts, out),
         }
     }),
@@ -118,8 +125,9 @@ pub const WRONG: &[Wrong] = &[
         |edition, facts, out| match expected_write(edition, facts, out) {
             -9 => {
                 let mut valid = facts;
-                let [.., last] = facts.layout;
-                valid.layout[7] = (0..64).find(|&offset| fits(facts, offset)).unwrap_or(last);
+                let last = facts.layout[OFFSETS + 2];
+                valid.layout[OFFSETS + 2] =
+                    (0..64).find(|&offset| fits(facts, offset)).unwrap_or(last);
                 let answer = expected_write(edition, valid, out);
                 if answer == 0 {
                     out.output()[10] = last;
@@ -132,17 +140,17 @@ pub const WRONG: &[Wrong] = &[
     // Refusal 11.
     writes("11 for the layout only", |edition, facts, out| {
         let row: WritingRow = (11, |edition, facts, _| lacks_layout(edition, facts));
-        written(edition, facts, out, &exchanged(2, row), least)
+        written(edition, facts, out, &exchanged(LACKING, row), least)
     }),
     writes("11 for the access only", |edition, facts, out| {
         let row: WritingRow = (11, |edition, facts, _| lacks_access(edition, facts));
-        written(edition, facts, out, &exchanged(2, row), least)
+        written(edition, facts, out, &exchanged(LACKING, row), least)
     }),
     writes("11 for open only", |edition, facts, out| {
         let row: WritingRow = (11, |edition, facts, _| {
             lacks_layout(edition, facts) || edition == 1 && facts.access == 2
         });
-        written(edition, facts, out, &exchanged(2, row), least)
+        written(edition, facts, out, &exchanged(LACKING, row), least)
     }),
     writes("11 for 10 bits", |edition, facts, out| {
         let row: WritingRow = (11, |edition, facts, _| {
@@ -150,7 +158,7 @@ pub const WRONG: &[Wrong] = &[
                 || lacks_access(edition, facts)
                 || edition == 1 && facts.layout[DEPTH] == 10
         });
-        written(edition, facts, out, &exchanged(2, row), least)
+        written(edition, facts, out, &exchanged(LACKING, row), least)
     }),
     writes("11 for 12 bits at edition 2", |edition, facts, out| {
         let row: WritingRow = (11, |edition, facts, _| {
@@ -158,13 +166,13 @@ pub const WRONG: &[Wrong] = &[
                 || lacks_access(edition, facts)
                 || edition == 2 && facts.layout[DEPTH] == 12
         });
-        written(edition, facts, out, &exchanged(2, row), least)
+        written(edition, facts, out, &exchanged(LACKING, row), least)
     }),
     writes("early captures written at 2", |edition, facts, out| {
         let row: WritingRow = (11, |edition, facts, _| {
             edition == 1 && lacks_layout(edition, facts) || lacks_access(edition, facts)
         });
-        written(edition, facts, out, &exchanged(2, row), least)
+        written(edition, facts, out, &exchanged(LACKING, row), least)
     }),
     writes(
         "early captures of 8 bits written at 2",
@@ -173,7 +181,7 @@ pub const WRONG: &[Wrong] = &[
                 let early = edition == 2 && facts.layout[DEPTH] == 8;
                 lacks_layout(edition, facts) && !early || lacks_access(edition, facts)
             });
-            written(edition, facts, out, &exchanged(2, row), least)
+            written(edition, facts, out, &exchanged(LACKING, row), least)
         },
     ),
     writes("early captures written at 1", |edition, facts, out| {
@@ -181,19 +189,19 @@ pub const WRONG: &[Wrong] = &[
             let early = edition == 1 && facts.layout[DEPTH] != 12;
             lacks_layout(edition, facts) && !early || lacks_access(edition, facts)
         });
-        written(edition, facts, out, &exchanged(2, row), least)
+        written(edition, facts, out, &exchanged(LACKING, row), least)
     }),
     writes("11 for early captures at 3", |edition, facts, out| {
         let row: WritingRow = (11, |edition, facts, _| {
             lacks_layout(edition.min(2), facts) || lacks_access(edition, facts)
         });
-        written(edition, facts, out, &exchanged(2, row), least)
+        written(edition, facts, out, &exchanged(LACKING, row), least)
     }),
     writes("11 for an access at 3", |edition, facts, out| {
         let row: WritingRow = (11, |edition, facts, _| {
             lacks_layout(edition, facts) || edition != 2 && facts.access != 0
         });
-        written(edition, facts, out, &exchanged(2, row), least)
+        written(edition, facts, out, &exchanged(LACKING, row), least)
     }),
     writes(
         "9 for early captures at 2",
@@ -274,30 +282,34 @@ pub const WRONG: &[Wrong] = &[
     }),
     // The order of refusals.
     writes("9 before 7, writing", |edition, facts, out| {
-        written(edition, facts, out, &rows([1, 0, 2, 3]), least)
+        written(edition, facts, out, &rows([1, 0, 2, 3, 4]), least)
     }),
     writes("11 before 9", |edition, facts, out| {
-        written(edition, facts, out, &rows([0, 2, 1, 3]), least)
+        written(edition, facts, out, &rows([0, 3, 1, 2, 4]), least)
     }),
     writes("13 before 11", |edition, facts, out| {
-        written(edition, facts, out, &rows([0, 1, 3, 2]), least)
+        written(edition, facts, out, &rows([0, 1, 2, 4, 3]), least)
     }),
     writes("13 before 9, writing a card", |edition, facts, out| {
-        written(edition, facts, out, &rows([0, 3, 1, 2]), least)
+        written(edition, facts, out, &rows([0, 4, 1, 2, 3]), least)
     }),
     writes("13 before 7", |edition, facts, out| {
-        written(edition, facts, out, &rows([3, 0, 1, 2]), least)
+        written(edition, facts, out, &rows([4, 0, 1, 2, 3]), least)
     }),
     writes("every writing refused", |_, _, _| -9),
 ];
 
+/// The rows for an odd width and for what an edition lacks.
+pub const ODD_WIDTH: usize = 2;
+const LACKING: usize = 3;
+
 /// These rows in this order.
-fn rows<const COUNT: usize>(order: [usize; COUNT]) -> [WritingRow; COUNT] {
+pub fn rows<const COUNT: usize>(order: [usize; COUNT]) -> [WritingRow; COUNT] {
     order.map(|row| WRITING[row])
 }
 
 /// All rows, with one in the place of another.
-fn exchanged(place: usize, row: WritingRow) -> [WritingRow; 4] {
+pub fn exchanged(place: usize, row: WritingRow) -> [WritingRow; WRITING.len()] {
     let mut rows = WRITING;
     rows[place] = row;
     rows
@@ -306,6 +318,6 @@ fn exchanged(place: usize, row: WritingRow) -> [WritingRow; 4] {
 /// Whether the layout is good with its last field at an offset.
 fn fits(facts: Facts, offset: u8) -> bool {
     let mut layout = facts.layout;
-    layout[7] = offset;
+    layout[OFFSETS + 2] = offset;
     is_valid(layout)
 }

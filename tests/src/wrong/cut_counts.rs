@@ -2,7 +2,7 @@
 
 use crate::library::Quantize;
 use crate::plain::color::{Pieces, PIECES};
-use crate::plain::lines::counted;
+use crate::plain::lines::{counted, single};
 use crate::plain::quantization::{all, half_up, line, rounded};
 
 use super::converts::{by, converts};
@@ -69,7 +69,7 @@ macro_rules! miscounted_points {
     ($($mistake:literal: $count:expr,)*) => {
         pub const ENCODING_A_POINT: &[Wrong] = &[$(
             encodes_points(concat!($mistake, ", a point"), |layout, values, out| {
-                counted(layout, &values, out, QUANTIZE, $count)
+                single(layout, || counted(layout, &values, out, QUANTIZE, $count))
             }),
         )*];
     };

@@ -8,7 +8,7 @@ use crate::color::expected_convert;
 use crate::guarded::Guarded;
 use crate::library::{Conversion, Direction, Setting, Slot, CUTS};
 use crate::plain::color::{converted, half_up, made_scales, numbers, Pieces, Ratio, PIECES};
-use crate::plain::lines::encoded;
+use crate::plain::lines::{encoded, encoded_point};
 use crate::plain::quantization::{ends, line, on_line, outside, right_number};
 use crate::quantization::{expected_quantize, scale_of};
 
@@ -31,7 +31,7 @@ macro_rules! mistaken {
                 })
             }),
             encodes_points(concat!($mistake, ", a point"), |layout, values, out| {
-                encoded(layout, &values, out, |setting, value, cuts| {
+                encoded_point(layout, values, out, |setting, value, cuts| {
                     told(setting, value, cuts, $is_cut)
                 })
             }),

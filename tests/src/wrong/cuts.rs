@@ -4,7 +4,7 @@
 use reference::quantization::{Kind, Range, Scale};
 
 use crate::plain::color::{Pieces, PIECES};
-use crate::plain::lines::encoded;
+use crate::plain::lines::{encoded, encoded_point};
 use crate::plain::quantization::{all_codes, cut, ends, outside, right_number};
 
 use super::converts::{by, converts};
@@ -29,7 +29,7 @@ macro_rules! mistaken {
                 })
             }),
             encodes_points(concat!($mistake, ", a point"), |layout, values, out| {
-                encoded(layout, &values, out, |setting, value, cuts| {
+                encoded_point(layout, values, out, |setting, value, cuts| {
                     cut(setting, value, cuts, right_number, ends, $cut)
                 })
             }),

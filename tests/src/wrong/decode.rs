@@ -4,7 +4,9 @@ use reference::lines;
 use reference::refusal::Refusal;
 
 use crate::guarded::Guarded;
-use crate::layouts::{bytes_a_point, DEPTH, LEGACY, OFFSETS, PRIMARIES, RANGE};
+use crate::layouts::{
+    bytes_a_point, elements_in, packed_length, DEPTH, LEGACY, OFFSETS, PRIMARIES, RANGE,
+};
 use crate::library::{Layout, Library};
 use crate::lines::{answer, expected_decode_line, expected_decode_point};
 use crate::plain::lines::{decoded, Place};
@@ -42,9 +44,8 @@ pub const WRONG: &[Wrong] = &[
     decodes(
         "a field's offset taken for its neighbour's, decoding",
         |layout, packed, out| {
-            let [_, _, _, _, _, first, second, third] = layout;
             let mut exchanged = layout;
-            exchanged[OFFSETS..].copy_from_slice(&[first, third, second]);
+            exchanged.swap(OFFSETS + 1, OFFSETS + 2);
             expected_decode_line(exchanged, packed, out)
         },
     ),
@@ -198,7 +199,7 @@ pub const WRONG: &[Wrong] = &[
     }),
     // Refusal 13.
     decodes("4,097 points decoded", |layout, packed, out| {
-        let [most, one_more] = [4096, 4097].map(|points| points * bytes_a_point(layout));
+        let [most, one_more] = [4096, 4097].map(|points| packed_length(layout, points));
         match expected_decode_line(layout, packed, out) {
             -13 if packed.len() == one_more && out.length() == 3 * 4097 => {
                 let (values, last) = out.output().split_at_mut(3 * 4096);
@@ -222,7 +223,7 @@ pub const WRONG: &[Wrong] = &[
         "a too short output filled, decoding",
         |layout, packed, out| match expected_decode_line(layout, packed, out) {
             -13 => {
-                let mut longer = Guarded::new(3 * (packed.len() / bytes_a_point(layout)));
+                let mut longer = Guarded::new(elements_in(layout, packed.len()));
                 let count = expected_decode_line(layout, packed, &mut longer);
                 let length = longer.length().min(out.length());
                 out.output()[..length].copy_from_slice(&longer.output()[..length]);
@@ -279,7 +280,7 @@ pub const WRONG: &[Wrong] = &[
     ),
     // The order of refusals.
     decodes("13 before 9, decoding", |layout, packed, out| {
-        match packed.len() == out.length() / 3 * bytes_a_point(layout) {
+        match packed.len() == packed_length(layout, out.length() / 3) {
             true => expected_decode_line(layout, packed, out),
             false => refused(Refusal::Length),
         }
@@ -325,7 +326,7 @@ pub const WRONG: &[Wrong] = &[
     decodes_points("every point refused", |_, _, _| refused(Refusal::Outside)),
 ];
 
-const fn decodes(
+pub const fn decodes(
     mistake: &'static str,
     decode_line: fn(Layout, &[u8], &mut Guarded<u32>) -> i64,
 ) -> Wrong {
@@ -336,7 +337,7 @@ const fn decodes(
     (mistake, library)
 }
 
-const fn decodes_points(
+pub const fn decodes_points(
     mistake: &'static str,
     decode_point: fn(Layout, &[u8], &mut Guarded<u32>) -> i64,
 ) -> Wrong {

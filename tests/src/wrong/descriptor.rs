@@ -314,7 +314,7 @@ pub const WRONG: &[Wrong] = &[
     ),
 ];
 
-const fn reads(
+pub const fn reads(
     mistake: &'static str,
     descriptor_read: fn(&[u8], &mut Guarded<u8>) -> i64,
 ) -> Wrong {
@@ -325,7 +325,7 @@ const fn reads(
     (mistake, library)
 }
 
-const fn writes(
+pub const fn writes(
     mistake: &'static str,
     descriptor_write: fn(Layout, &mut Guarded<u8>) -> i64,
 ) -> Wrong {

@@ -4,10 +4,10 @@ use reference::lines;
 use reference::refusal::Refusal;
 
 use crate::clamped::{counted, Clamped};
-use crate::layouts::{bytes_a_point, LEGACY, OFFSETS, PRIMARIES, RANGE};
+use crate::layouts::{bytes_a_point, packed_length, LEGACY, OFFSETS, PRIMARIES, RANGE};
 use crate::library::{EncodeLine, EncodePoint, Library};
 use crate::lines::{answer, expected_encode_line, expected_encode_point};
-use crate::plain::lines::{encoded, place, store_fields};
+use crate::plain::lines::{encoded, encoded_point, place, store_fields};
 use crate::plain::quantization::{clamped, line, numbered, right_number};
 use crate::quantization::refused;
 
@@ -37,9 +37,8 @@ pub const WRONG: &[Wrong] = &[
     encodes(
         "a field's offset taken for its neighbour's, encoding",
         |layout, values, out| {
-            let [_, _, _, _, _, first, second, third] = layout;
             let mut exchanged = layout;
-            exchanged[OFFSETS..].copy_from_slice(&[first, third, second]);
+            exchanged.swap(OFFSETS + 1, OFFSETS + 2);
             expected_encode_line(exchanged, values, out)
         },
     ),
@@ -79,7 +78,7 @@ pub const WRONG: &[Wrong] = &[
     encodes_points(
         "narrow brightness alone clamped, a point",
         |layout, values, out| {
-            encoded(layout, &values, out, |setting, value, cuts| {
+            encoded_point(layout, values, out, |setting, value, cuts| {
                 clamped(setting, value, cuts, right_number, brightness_alone)
             })
         },
@@ -90,14 +89,14 @@ pub const WRONG: &[Wrong] = &[
     ),
     encodes_points(
         "narrow infinities to the ends of all codes, a point",
-        |layout, values, out| encoded(layout, &values, out, infinities_to_all_codes),
+        |layout, values, out| encoded_point(layout, values, out, infinities_to_all_codes),
     ),
     encodes(
         "rounded after the clamp, encoding",
         |layout, values, out| encoded(layout, values, out, rounded_after_the_clamp),
     ),
     encodes_points("rounded after the clamp, a point", |layout, values, out| {
-        encoded(layout, &values, out, rounded_after_the_clamp)
+        encoded_point(layout, values, out, rounded_after_the_clamp)
     }),
     encodes(
         "all channels on the scale of channel 0",
@@ -137,7 +136,7 @@ pub const WRONG: &[Wrong] = &[
     }),
     // Refusal 13.
     encodes("4,097 points encoded", |layout, values, out| {
-        let [most, one_more] = [4096, 4097].map(|points| points * bytes_a_point(layout));
+        let [most, one_more] = [4096, 4097].map(|points| packed_length(layout, points));
         match expected_encode_line(layout, values, out) {
             -13 if values.len() == 3 * 4097 && out.length() == one_more => {
                 let bits = bits(values);
@@ -152,7 +151,7 @@ pub const WRONG: &[Wrong] = &[
     encodes(
         "a too long output accepted, encoding",
         |layout, values, out| {
-            let needed = values.len() / 3 * bytes_a_point(layout);
+            let needed = packed_length(layout, values.len() / 3);
             let length = needed.min(out.length());
             let output = &mut out.made.output()[..length];
             counted(
@@ -165,7 +164,7 @@ pub const WRONG: &[Wrong] = &[
         "a too short output filled",
         |layout, values, out| match expected_encode_line(layout, values, out) {
             -13 => {
-                let mut longer = Clamped::new(values.len() / 3 * bytes_a_point(layout));
+                let mut longer = Clamped::new(packed_length(layout, values.len() / 3));
                 let count = expected_encode_line(layout, values, &mut longer);
                 let length = longer.length().min(out.length());
                 out.output()[..length].copy_from_slice(&longer.output()[..length]);

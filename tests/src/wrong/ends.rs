@@ -6,10 +6,10 @@ use reference::quantization::{Kind, Range, Scale};
 use reference::refusal::Refusal;
 
 use crate::guarded::{Element, Guarded};
-use crate::layouts::bytes_a_point;
+use crate::layouts::elements_in;
 use crate::library::{Layout, Setting, Slot};
 use crate::plain::color::{Pieces, PIECES};
-use crate::plain::lines::encoded;
+use crate::plain::lines::{encoded, encoded_point};
 use crate::plain::quantization::{
     all_codes, clamped, ends, half_up, line, on_line, returned, right_number,
 };
@@ -37,7 +37,7 @@ macro_rules! mistaken {
                 })
             }),
             encodes_points(concat!($mistake, ", a point"), |layout, values, out| {
-                encoded(layout, &values, out, |setting, value, cuts| {
+                encoded_point(layout, values, out, |setting, value, cuts| {
                     clamped(setting, value, cuts, right_number, $ends)
                 })
             }),
@@ -180,7 +180,7 @@ pub fn codes_within_the_ends(layout: Layout, codes: &[u16]) -> Vec<u16> {
 /// The packed points, if any code of theirs lies beyond, with all within the ends.
 pub fn line_within_the_ends(layout: Layout, packed: &[u8]) -> Vec<u8> {
     let mut within = packed.to_vec();
-    let mut codes = vec![0; packed.len() / bytes_a_point(layout).max(1) * 3];
+    let mut codes = vec![0; elements_in(layout, packed.len())];
     if lines::unpack_line(layout, packed, &mut codes).is_ok() {
         let nearer = codes_within_the_ends(layout, &codes);
         if nearer != codes {

@@ -1,7 +1,7 @@
 //! Mistakes in which bytes hold a field, made in telling them and in taking a code
 //! from them.
 
-use crate::layouts::{bytes_a_point, DEPTH, OFFSETS};
+use crate::layouts::{bytes_a_point, DEPTH, OFFSETS, SAMPLING};
 use crate::library::{FieldBytes, FieldCode, Layout, Library};
 use crate::plain::field::{held, taken, told};
 use crate::plain::lines::place;
@@ -68,7 +68,7 @@ const PAIRS: &[[Wrong; 2]] = &[
     }),
     holds!("channels counted by rising offset", |layout, channel| {
         let mut offsets = layout;
-        offsets[OFFSETS..].sort();
+        offsets[OFFSETS..SAMPLING].sort();
         held(offsets, channel)
     }),
     holds!("a byte too early", |layout, channel| {

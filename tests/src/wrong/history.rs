@@ -6,12 +6,14 @@ use reference::refusal::Refusal;
 use crate::card::{expected_read, expected_rewrite, expected_write, ACCESS, LEAST, WRITTEN};
 use crate::guarded::Guarded;
 use crate::history::replays::expected_replay;
+use crate::layouts::OFFSETS;
 use crate::library::card::{CardRead, CardRewrite};
 use crate::library::history::Replay;
 use crate::library::Library;
 use crate::lines::expected_decode_line;
 use crate::quantization::refused;
 
+use super::points::older_as_full;
 use super::{Wrong, REFERENCE};
 
 pub const WRONG: &[Wrong] = &[
@@ -39,13 +41,28 @@ pub const WRONG: &[Wrong] = &[
         let edition = if edition == 4 { 3 } else { edition };
         expected_rewrite(card, edition, out)
     }),
+    rewrites("edition 5 rewrites as 4", |card, edition, out| {
+        let edition = if edition == 5 { 4 } else { edition };
+        expected_rewrite(card, edition, out)
+    }),
     rewrites("edition 3 not known", |card, edition, out| {
-        let edition = if edition == 3 { 4 } else { edition };
+        let edition = if edition == 3 { 5 } else { edition };
+        expected_rewrite(card, edition, out)
+    }),
+    rewrites("edition 4 not known", |card, edition, out| {
+        let edition = if edition == 4 { 5 } else { edition };
         expected_rewrite(card, edition, out)
     }),
     rewrites("access lost at edition 3", |card, edition, out| {
         accepted(card, edition, out, |_, out| {
             if edition == 3 {
+                out[ACCESS] = 0;
+            }
+        })
+    }),
+    rewrites("access lost at edition 4", |card, edition, out| {
+        accepted(card, edition, out, |_, out| {
+            if edition == 4 {
                 out[ACCESS] = 0;
             }
         })
@@ -94,6 +111,17 @@ pub const WRONG: &[Wrong] = &[
     reads("reading at edition 4 as at 3", |card, edition, told| {
         let edition = if edition == 4 { 3 } else { edition };
         expected_read(card, edition, told)
+    }),
+    reads("reading at edition 5 as at 4", |card, edition, told| {
+        let edition = if edition == 5 { 4 } else { edition };
+        expected_read(card, edition, told)
+    }),
+    reads("access hidden at edition 4", |card, edition, told| {
+        let answer = expected_read(card, edition, told);
+        if answer == 0 && edition == 4 {
+            told.facts.output()[3] = 0;
+        }
+        answer
     }),
     reads("access hidden at edition 3", |card, edition, told| {
         let answer = expected_read(card, edition, told);
@@ -170,9 +198,9 @@ pub const WRONG: &[Wrong] = &[
         "decoded with the first two channels exchanged",
         Library {
             decode_line: |layout, packed, values| {
-                let [model, primaries, range, depth, bytes, a, b, c] = layout;
-                let layout = [model, primaries, range, depth, bytes, b, a, c];
-                expected_decode_line(layout, packed, values)
+                let mut exchanged = layout;
+                exchanged.swap(OFFSETS, OFFSETS + 1);
+                expected_decode_line(exchanged, packed, values)
             },
             ..REFERENCE
         },
@@ -181,10 +209,7 @@ pub const WRONG: &[Wrong] = &[
         "early captures decoded in full range",
         Library {
             decode_line: |layout, packed, values| {
-                let [model, primaries, range, others @ ..] = layout;
-                let [depth, bytes, a, b, c] = others;
-                let layout = [model, primaries, range.min(2), depth, bytes, a, b, c];
-                expected_decode_line(layout, packed, values)
+                expected_decode_line(older_as_full(layout), packed, values)
             },
             ..REFERENCE
         },
@@ -219,7 +244,7 @@ pub const WRONG: &[Wrong] = &[
     ),
 ];
 
-const fn rewrites(mistake: &'static str, card_rewrite: CardRewrite) -> Wrong {
+pub const fn rewrites(mistake: &'static str, card_rewrite: CardRewrite) -> Wrong {
     (
         mistake,
         Library {
@@ -229,7 +254,7 @@ const fn rewrites(mistake: &'static str, card_rewrite: CardRewrite) -> Wrong {
     )
 }
 
-const fn reads(mistake: &'static str, card_read: CardRead) -> Wrong {
+pub const fn reads(mistake: &'static str, card_read: CardRead) -> Wrong {
     (
         mistake,
         Library {
@@ -239,7 +264,7 @@ const fn reads(mistake: &'static str, card_read: CardRead) -> Wrong {
     )
 }
 
-const fn replays(mistake: &'static str, replay: Replay) -> Wrong {
+pub const fn replays(mistake: &'static str, replay: Replay) -> Wrong {
     (
         mistake,
         Library {
@@ -250,7 +275,7 @@ const fn replays(mistake: &'static str, replay: Replay) -> Wrong {
 }
 
 /// A rewrite whose output is changed once it is accepted.
-fn accepted(
+pub fn accepted(
     card: &mut Guarded<u8>,
     edition: u8,
     out: &mut Guarded<u8>,

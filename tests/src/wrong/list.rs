@@ -85,11 +85,12 @@ pub const WRONG: &[Wrong] = &[
     }),
     lists("read at edition 1", |pieces| read_at(pieces, |_| 1)),
     lists("read at edition 2", |pieces| read_at(pieces, |_| 2)),
+    lists("read at edition 3", |pieces| read_at(pieces, |_| 3)),
     lists("read at the writer's edition", |pieces| {
-        read_at(pieces, |card| card[WRITTEN].clamp(1, 3))
+        read_at(pieces, |card| card[WRITTEN].clamp(1, 4))
     }),
     lists("read at the least edition", |pieces| {
-        read_at(pieces, |card| card[LEAST].clamp(1, 3))
+        read_at(pieces, |card| card[LEAST].clamp(1, 4))
     }),
     lists("refused cards not listed", |pieces| {
         edited(pieces, |line| match line.starts_with('-') {
@@ -109,6 +110,9 @@ pub const WRONG: &[Wrong] = &[
     }),
     lists("one digit of a refusal", |pieces| {
         edited(pieces, |line| line.replace("refused 10", "refused 1"))
+    }),
+    lists("6 for 16", |pieces| {
+        edited(pieces, |line| line.replace("refused 16", "refused 6"))
     }),
     lists("a refused card's item shown", |pieces| {
         edited(pieces, |line| match line.strip_prefix("- ") {

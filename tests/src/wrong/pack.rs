@@ -4,7 +4,7 @@ use reference::lines;
 use reference::refusal::Refusal;
 
 use crate::guarded::Guarded;
-use crate::layouts::{bytes_a_point, DEPTH};
+use crate::layouts::{bytes_a_point, packed_length, DEPTH};
 use crate::library::{Layout, Library};
 use crate::lines::{answer, expected_pack_line};
 use crate::plain::lines::{packed, place, store_fields};
@@ -67,7 +67,7 @@ pub const WRONG: &[Wrong] = &[
     ),
     // Refusal 13.
     packs("4,097 points packed", |layout, codes, out| {
-        let [most, one_more] = [4096, 4097].map(|points| points * bytes_a_point(layout));
+        let [most, one_more] = [4096, 4097].map(|points| packed_length(layout, points));
         match expected_pack_line(layout, codes, out) {
             -13 if codes.len() == 3 * 4097 && out.length() == one_more => {
                 let (packed, last) = out.output().split_at_mut(most);
@@ -80,7 +80,7 @@ pub const WRONG: &[Wrong] = &[
     packs(
         "a too long output accepted, packing",
         |layout, codes, out| {
-            let needed = codes.len() / 3 * bytes_a_point(layout);
+            let needed = packed_length(layout, codes.len() / 3);
             let length = needed.min(out.length());
             answer(lines::pack_line(layout, codes, &mut out.output()[..length]))
         },
@@ -153,7 +153,7 @@ pub const WRONG: &[Wrong] = &[
     packs("everything refused", |_, _, _| refused(Refusal::Outside)),
 ];
 
-const fn packs(
+pub const fn packs(
     mistake: &'static str,
     pack_line: fn(Layout, &[u16], &mut Guarded<u8>) -> i64,
 ) -> Wrong {

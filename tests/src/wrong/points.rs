@@ -5,7 +5,7 @@ use reference::refusal::Refusal;
 
 use crate::clamped::{counted, Clamped};
 use crate::guarded::{Element, Guarded};
-use crate::layouts::{bytes_a_point, LEGACY, RANGE};
+use crate::layouts::{bytes_a_point, elements_in, LEGACY, RANGE};
 use crate::library::{Layout, Slot};
 use crate::plain::field::held;
 use crate::plain::layout::is_valid;
@@ -93,7 +93,7 @@ pub fn place_in_two_bytes(layout: Layout, channel: usize, bit: usize) -> usize {
 pub fn with_places(layout: Layout, packed: &[u8], other: Place) -> Vec<u8> {
     let mut moved = packed.to_vec();
     if is_valid(layout) && packed.len().is_multiple_of(bytes_a_point(layout)) {
-        let mut codes = vec![0; packed.len() / bytes_a_point(layout) * 3];
+        let mut codes = vec![0; elements_in(layout, packed.len())];
         load_fields(layout, packed, &mut codes, other);
         store_fields(layout, &codes, &mut moved, place);
     }

@@ -93,7 +93,7 @@ pub const WRONG: &[Wrong] = &[
         "only cards that every edition reads",
         |stack, edition, item| {
             by_bytes(stack, edition, item, |card, _| {
-                (1..=3).all(|edition| card::read(card, edition).is_ok())
+                (1..=4).all(|edition| card::read(card, edition).is_ok())
             })
         },
     ),

@@ -68,8 +68,16 @@ pub const WRONG: &[Wrong] = &[
         let edition = if edition == 4 { 3 } else { edition };
         expected_find(stack, edition, item)
     }),
+    finds("edition 5 finds as 4", |stack, edition, item| {
+        let edition = if edition == 5 { 4 } else { edition };
+        expected_find(stack, edition, item)
+    }),
     finds("edition 3 not known", |stack, edition, item| {
-        let edition = if edition == 3 { 4 } else { edition };
+        let edition = if edition == 3 { 5 } else { edition };
+        expected_find(stack, edition, item)
+    }),
+    finds("edition 4 not known", |stack, edition, item| {
+        let edition = if edition == 4 { 5 } else { edition };
         expected_find(stack, edition, item)
     }),
     finds("edition 0 finds as 1", |stack, edition, item| {
@@ -86,14 +94,14 @@ pub const WRONG: &[Wrong] = &[
     finds(
         "7 before 1, finding",
         |stack, edition, item| match edition {
-            1..=3 => expected_find(stack, edition, item),
+            1..=4 => expected_find(stack, edition, item),
             _ => -7,
         },
     ),
     finds("15 before 7", |stack, edition, item| {
         match (
             expected_find(stack, edition, item),
-            expected_find(stack, 3, item),
+            expected_find(stack, 4, item),
         ) {
             (-7, -15) => -15,
             (answer, _) => answer,

@@ -5,7 +5,7 @@ use reference::lines;
 use reference::refusal::Refusal;
 
 use crate::guarded::Guarded;
-use crate::layouts::{bytes_a_point, BYTES, DEPTH, OFFSETS};
+use crate::layouts::{bytes_a_point, elements_in, packed_length, BYTES, DEPTH, OFFSETS, SAMPLING};
 use crate::library::{Layout, Library};
 use crate::lines::{answer, expected_unpack_line};
 use crate::plain::lines::{load_fields, place, unpacked};
@@ -86,7 +86,7 @@ pub const WRONG: &[Wrong] = &[
     ),
     // Refusal 13.
     unpacks("4,097 points unpacked", |layout, packed, out| {
-        let [most, one_more] = [4096, 4097].map(|points| points * bytes_a_point(layout));
+        let [most, one_more] = [4096, 4097].map(|points| packed_length(layout, points));
         match expected_unpack_line(layout, packed, out) {
             -13 if packed.len() == one_more && out.length() == 3 * 4097 => {
                 let (codes, last) = out.output().split_at_mut(3 * 4096);
@@ -116,11 +116,7 @@ pub const WRONG: &[Wrong] = &[
     unpacks(
         "a too long output accepted, unpacking",
         |layout, packed, out| {
-            let needed = match layout::Layout::new(layout) {
-                Ok(layout) => packed.len() / layout.point_bytes() * 3,
-                Err(_) => 0,
-            };
-            let length = needed.min(out.length());
+            let length = elements_in(layout, packed.len()).min(out.length());
             answer(lines::unpack_line(
                 layout,
                 packed,
@@ -130,7 +126,7 @@ pub const WRONG: &[Wrong] = &[
     ),
     // The order of refusals.
     unpacks("13 before 9", |layout, packed, out| {
-        match packed.len() == out.length() / 3 * bytes_a_point(layout) {
+        match packed.len() == packed_length(layout, out.length() / 3) {
             true => expected_unpack_line(layout, packed, out),
             false => refused(Refusal::Length),
         }
@@ -152,7 +148,7 @@ pub const WRONG: &[Wrong] = &[
     unpacks("everything refused", |_, _, _| refused(Refusal::Outside)),
 ];
 
-const fn unpacks(
+pub const fn unpacks(
     mistake: &'static str,
     unpack_line: fn(Layout, &[u8], &mut Guarded<u16>) -> i64,
 ) -> Wrong {
@@ -165,13 +161,14 @@ const fn unpacks(
 
 pub fn only_overlaps(layout: Layout) -> bool {
     layout::Layout::new(with_fields_apart(layout)).is_ok()
-        && layout[OFFSETS..]
+        && layout[OFFSETS..SAMPLING]
             .iter()
             .all(|offset| offset.saturating_add(layout[DEPTH]) <= 8 * layout[BYTES])
 }
 
 pub fn with_fields_apart(layout: Layout) -> Layout {
     let mut apart = layout;
-    apart[OFFSETS..].copy_from_slice(&[0, 1, 2].map(|field| layout[DEPTH].wrapping_mul(field)));
+    apart[OFFSETS..SAMPLING]
+        .copy_from_slice(&[0, 1, 2].map(|field| layout[DEPTH].wrapping_mul(field)));
     apart
 }

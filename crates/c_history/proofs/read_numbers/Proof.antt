@@ -47,11 +47,14 @@ cast-t16 c = search needs
 cast-t17 : tie.Need-cast-t17
 cast-t17 c = search needs
 
+cast-t18 : tie.Need-cast-t18
+cast-t18 c = search needs
+
 returns : tie.Need-returns
 returns c = sym (ap readNumbers (c .before .reading .given .1))
 
 returns-2 : tie.Need-returns-2
-returns-2 c = sym (ap readNumbers (c .before .before .before .before .before .before .before .before .before .before .before .before .before .reading2 .given .1))
+returns-2 c = sym (ap readNumbers (c .before .before .before .before .before .before .before .before .before .before .before .before .before .before .reading2 .given .1))
 
 pub read-numbers-spec : {M : Type 1} → statement M
 read-numbers-spec =
@@ -71,5 +74,6 @@ read-numbers-spec =
     cast-t15
     cast-t16
     cast-t17
+    cast-t18
     returns
     returns-2)

@@ -27,6 +27,9 @@ element-copy-out-t22 c = search needs
 element-copy-out-t25 : tie.Need-element-copy-out-t25
 element-copy-out-t25 c = search needs
 
+element-copy-out-t28 : tie.Need-element-copy-out-t28
+element-copy-out-t28 c = search needs
+
 returns : tie.Need-returns
 returns c = search needs
 
@@ -42,4 +45,5 @@ layout-of-spec =
     element-copy-out-t19
     element-copy-out-t22
     element-copy-out-t25
+    element-copy-out-t28
     returns)

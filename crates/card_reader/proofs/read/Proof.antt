@@ -8,10 +8,11 @@ use lib.Dec.{eqb, ltb}
 use lib.ListN.{length, getD}
 use borrow.Author.Tests.{eq-eqb, ne-eqb, lt-ltb, le-ltb, not-true, not-false}
 use Rattle.card_table.specs.Edition.{editionKnown}
+use Rattle.card_table.specs.Facts.{oddWidth}
 use Rattle.card_table.specs.Table.{cardSize}
 use Rattle.card_reader.specs.declared.CardReading.the-variants.{Shown}
 use Rattle.card_reader.specs.Reading.{factsIn, frontRight}
-use Rattle.card_reader.proofs.Answers.{refused-1, refused-7, refused-9, refused-8, refused-front, refused-10, refused-end, shown}
+use Rattle.card_reader.proofs.Answers.{refused-1, refused-7, refused-9, refused-8, refused-front, refused-16, refused-10, refused-end, shown}
 use borrow.Author.Needs.{needs}
 use Rattle.card_reader.proofs.read.Statement.{statement}
 use Rattle.card_reader.proofs.read.Tie as tie
@@ -41,6 +42,12 @@ front-is c = let l = c .before .before .before .before .before .before .before .
 
 front : (c : tie.Else5) → let l = c .before .before .before .before .before .before .before .before .before in frontRight (given l) (factsIn (given l) (asked l)) ≡ true
 front c = sym (front-is (c .before)) ∙ not-false (c .before .front-right .result) (c .if5 .left)
+
+odd-is : (c : tie.After-odd-width) → let l = c .before .before .before .before .before .before .before .before .before .before in c .odd-width .result ≡ oddWidth (factsIn (given l) (asked l))
+odd-is c = c .odd-width .ensures ∙ ap oddWidth (c .before .before .before .facts-in .ensures)
+
+even : (c : tie.Else6) → let l = c .before .before .before .before .before .before .before .before .before .before .before .before .before .before .before in oddWidth (factsIn (given l) (asked l)) ≡ false
+even c = sym (odd-is (c .before .before .before .before .before)) ∙ c .if6 .left
 
 returns : tie.Need-returns
 returns c = let a = c .before .before .args in refused-1 (now (a .bytes)) (a .edition) (ne-eqb (length (now (a .bytes))) cardSize (c .if1 .taken))
@@ -86,6 +93,9 @@ returns-5 c =
     let l = k .before .before in
     refused-front (given l) (asked l) (long l) (edition k) (some z) (readable h) (sym (front-is (c .before)) ∙ not-true (c .before .front-right .result) (c .if5 .taken))
 
+odd-width-requires : tie.Need-odd-width-requires
+odd-width-requires c κs = search needs
+
 shared-slice-read-unknown : tie.Need-shared-slice-read-unknown
 shared-slice-read-unknown c = search needs
 
@@ -100,38 +110,54 @@ end-wrong-requires c κs = search needs
 
 returns-6 : tie.Need-returns-6
 returns-6 c =
-    let u = c .before .before in
-    let f = u .before .before .before in
+    let o = c .before .before .before .before .before in
+    let f = o .before in
     let h = f .before .before .before in
     let z = h .before .before in
     let k = z .before .before in
     let l = k .before .before in
-    refused-10 (given l) (asked l) (long l) (edition k) (some z) (readable h) (front f) (sym (u .unknown .ensures) ∙ c .if6 .taken)
+    refused-16 (given l) (asked l) (long l) (edition k) (some z) (readable h) (front f) (sym (odd-is o) ∙ c .if6 .taken)
 
 returns-7 : tie.Need-returns-7
 returns-7 c =
-    let a = c .before in
-    let w = a .before in
-    let u = w .before in
-    let f = u .before .before .before in
+    let w = c .before in
+    let u = w .before .before in
+    let o = u .before .before .before in
+    let f = o .before in
     let h = f .before .before .before in
     let z = h .before .before in
     let k = z .before .before in
     let l = k .before .before in
-    refused-end (given l) (asked l) (long l) (edition k) (some z) (readable h) (front f) (sym (u .unknown .ensures) ∙ a .if6 .left) (sym (w .end-wrong .ensures) ∙ c .if7 .taken)
+    refused-10 (given l) (asked l) (long l) (edition k) (some z) (readable h) (front f) (even w) (sym (u .unknown .ensures) ∙ c .if7 .taken)
 
 returns-8 : tie.Need-returns-8
 returns-8 c =
     let a = c .before in
     let w = a .before in
-    let u = w .before in
-    let f = u .before .before .before in
+    let e = w .before in
+    let u = e .before in
+    let o = u .before .before .before in
+    let f = o .before in
+    let h = f .before .before .before in
+    let z = h .before .before in
+    let k = z .before .before in
+    let l = k .before .before in
+    refused-end (given l) (asked l) (long l) (edition k) (some z) (readable h) (front f) (even w) (sym (u .unknown .ensures) ∙ a .if7 .left) (sym (e .end-wrong .ensures) ∙ c .if8 .taken)
+
+returns-9 : tie.Need-returns-9
+returns-9 c =
+    let a = c .before in
+    let w = a .before in
+    let e = w .before in
+    let u = e .before in
+    let o = u .before .before .before in
+    let f = o .before in
     let h = f .before .before .before in
     let z = h .before .before in
     let k = z .before .before in
     let l = k .before .before in
     ap Shown (f .before .before .facts-in .ensures)
-    ∙ shown (given l) (asked l) (long l) (edition k) (some z) (readable h) (front f) (sym (u .unknown .ensures) ∙ a .if6 .left) (sym (w .end-wrong .ensures) ∙ c .if7 .left)
+    ∙ shown (given l) (asked l) (long l) (edition k) (some z) (readable h) (front f) (even w) (sym (u .unknown .ensures) ∙ a .if7 .left) (sym (e .end-wrong .ensures) ∙ c .if8 .left)
 
 pub read-spec : {M : Type 1} → statement M
 read-spec =
@@ -147,10 +173,12 @@ read-spec =
     facts-in-requires
     front-right-requires
     returns-5
+    odd-width-requires
     shared-slice-read-unknown
     shared-slice-read-unknown-2
     unknown-requires
     end-wrong-requires
     returns-6
     returns-7
-    returns-8)
+    returns-8
+    returns-9)

@@ -1,4 +1,4 @@
--- The value that is read of a line. Only private functions cite it, and a reader need not believe it: proofs/Values.antt shows that it is `valueAt`. Assumes nothing.
+-- The value that is read of a line. Only private functions cite it, and a reader need not believe it: proofs/Values.antt shows that it is `pointValue`, and proofs/Own.antt that this is the line's value. Assumes nothing.
 use Prim.Native.Nat.{ℕ, zero, suc}
 use mathlib.Core.List.{List}
 use lib.Ieee.{Float}

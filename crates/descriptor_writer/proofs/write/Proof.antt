@@ -4,24 +4,24 @@ use mathlib.Core.Bool.{true}
 use denote.Ref.{now}
 use lib.ListN.{length}
 use borrow.Author.Tests.{ne-eqb, eq-eqb, not-true, not-false}
-use Rattle.layout.specs.Layout.{validLayout}
-use Rattle.layout.proofs.Facts.{valid-says}
+use Rattle.layout.specs.Layout.{validPoints}
+use Rattle.layout.proofs.Facts.{points-say}
 use Rattle.descriptor_writer.proofs.Answers.{refused-9, refused-13, done, unchanged, changed}
 use Rattle.descriptor_writer.proofs.Stored.{descriptor-stored}
 use borrow.Author.Needs.{needs}
 use Rattle.descriptor_writer.proofs.write.Statement.{statement}
 use Rattle.descriptor_writer.proofs.write.Tie as tie
 
-ok : (c : tie.Else1) → validLayout (c .before .before .before .args .layout) ≡ true
-ok c = sym (c .before .valid .ensures) ∙ not-false (c .before .valid .result) (c .if1 .left)
+ok : (c : tie.Else1) → validPoints (c .before .before .before .args .layout) ≡ true
+ok c = sym (c .before .valid-points .ensures) ∙ not-false (c .before .valid-points .result) (c .if1 .left)
 
-valid-requires : tie.Need-valid-requires
-valid-requires c κs = search needs
+valid-points-requires : tie.Need-valid-points-requires
+valid-points-requires c κs = search needs
 
 returns : tie.Need-returns
 returns c =
     let a = c .before .before .before .args in
-    let e = refused-9 (a .layout) (now (a .out)) (sym (c .before .valid .ensures) ∙ not-true (c .before .valid .result) (c .if1 .taken)) in
+    let e = refused-9 (a .layout) (now (a .out)) (sym (c .before .valid-points .ensures) ∙ not-true (c .before .valid-points .result) (c .if1 .taken)) in
     (e, unchanged (a .layout) (now (a .out)) 9 e)
 
 returns-2 : tie.Need-returns-2
@@ -42,7 +42,7 @@ put-requires c κs = search needs
 put-samples-requires : tie.Need-put-samples-requires
 put-samples-requires c κs =
     let t = c .before .before .before .before .before .before .before in
-    (valid-says (t .before .before .before .before .args .layout) (ok (t .before)) .depth, search needs)
+    (points-say (t .before .before .before .before .args .layout) (ok (t .before)) .depth, search needs)
 
 same-length : tie.Need-same-length
 same-length c = search needs
@@ -65,7 +65,7 @@ pub write-spec : {M : Type 1} → statement M
 write-spec =
     tie.close
     (tie.spec
-    valid-requires
+    valid-points-requires
     returns
     returns-2
     front-bytes-requires

@@ -1,106 +1,36 @@
--- `encoding::encode_line` meets its contract, row by row. Assumes nothing.
+-- `encoding::encode_line` meets its contract: groups are answered by their own function, and points of their own by theirs. Assumes nothing.
 use borrow.Author.Needs.{needs}
-use mathlib.Core.Path.{_≡_, sym, ap, _∙_}
-use mathlib.Core.Bool.{true}
-use Prim.Native.Nat.{ℕ, _/_}
-use native.Mathlib.Nat.{mul-comm, mul-le-mul-right}
-use native.Mathlib.Omega.{arith}
-use borrow.Author.Tests.{not-true, not-false}
-use lib.ListN.{length}
-use Rattle.layout.specs.Layout.{validLayout}
-use Rattle.layout.proofs.Facts.{valid-says}
-use Rattle.scales.specs.inner.Fitted.{Fitted}
-use Rattle.scales.proofs.Scales.{scales-told, scales-unknown}
-use Rattle.line.specs.inner.Cuts.{cutsTold}
-use Rattle.line.proofs.Answers.{refuses-clamped, counts-clamped, fits, all-told}
-use Rattle.line.specs.declared.ClampedAnswer.the-variants.{Points}
-use Rattle.encoding.specs.Encode.{cutsOf}
-use Rattle.encoding.proofs.Encodes.{cuts-most}
-use Rattle.encoding.proofs.Answers.{encode-outside, encode-unfit, encode-not-number, encode-points}
+use mathlib.Core.Path.{sym, _∙_}
+use Rattle.lists.proofs.Tests.{stop}
 use Rattle.encoding.proofs.encode_line.Statement.{statement}
 use Rattle.encoding.proofs.encode_line.Tie as tie
 
--- the layout is valid, and the scales are its own
-told : (c : tie.After-scales) → let l = c .before .before .before .before .before .args .layout in (validLayout l ≡ true) × Fitted l (c .scales .given .0 .0)
-told c = scales-told (c .before .before .before .before .before .args .layout) (sym (c .before .before .of .ensures) ∙ c .scales .given .1)
+grouped-requires : tie.Need-grouped-requires
+grouped-requires c κs = search needs
 
-of-requires : tie.Need-of-requires
-of-requires c κs = search needs
+encode-groups-requires : tie.Need-encode-groups-requires
+encode-groups-requires c κs = search needs
 
-enum-known-scales : tie.Need-enum-known-scales
-enum-known-scales c = search needs
-
-enum-told : tie.Need-enum-told
-enum-told c = search needs
-
-returns : tie.Need-returns
-returns c =
-    let o = c .before .before in
-    refuses-clamped _ _ (encode-outside _ _ _ (scales-unknown (o .before .before .before .args .layout) (sym (o .of .ensures) ∙ c .enum-told .given .1)))
-
-cast-size : tie.Need-cast-size
-cast-size c = search needs
-
-mul-if1 : tie.Need-mul-if1
-mul-if1 c =
-    let s = c .before .before in
-    let a = s .before .before .before .before .before .args in
-    omega (arith, mul-le-mul-right (length (a .values .now) / 3) (valid-says (a .layout) (told s .0) .bytes-most))
-
-returns-2 : tie.Need-returns-2
-returns-2 c = refuses-clamped _ _ (encode-unfit _ _ _ (told (c .before .before .before) .0) (not-true _ (c .if1 .taken)))
-
-all-numbers-requires : tie.Need-all-numbers-requires
-all-numbers-requires c κs = search needs
-
-returns-3 : tie.Need-returns-3
-returns-3 c =
-    let i = c .before .before in
-    refuses-clamped _ _ (encode-not-number _ _ _ (told (i .before .before .before) .0) (not-false _ (i .if1 .left)) (sym (c .before .all-numbers .ensures) ∙ not-true _ (c .if2 .taken)))
-
-points-requires : tie.Need-points-requires
-points-requires c κs =
-    let e = c .before in
-    let i = e .before .before in
-    let s = i .before .before .before in
-    let t = told s in
-    let a = s .before .before .before .before .before .args in
-    let h = fits (length (a .values .now)) 3 (length (a .out .now)) (a .layout .bytes) (not-false _ (i .if1 .left)) in
-    ((t .0, t .1, sym (e .before .all-numbers .ensures) ∙ not-false _ (e .if2 .left)), (h .0 ∙ mul-comm (length (a .values .now) / 3) 3, h .2, h .1))
+encode-points-requires : tie.Need-encode-points-requires
+encode-points-requires c κs = let k = c .before in sym (k .before .grouped .ensures) ∙ k .if1 .left
 
 same-length : tie.Need-same-length
 same-length c = search needs
 
-cuts-told-requires : tie.Need-cuts-told-requires
-cuts-told-requires c κs = search needs
+returns : tie.Need-returns
+returns c =
+    let k = c .before .before .before .before in
+    let r = c .before .before .encode-groups .ensures in
+    let e = sym (k .before .grouped .ensures) ∙ k .if1 .taken in
+    (r .0 ∙ stop _ e, r .1 ∙ stop _ e)
 
-returns-4 : tie.Need-returns-4
-returns-4 c =
-    let e = c .before .before .before .before .before in
-    let i = e .before .before in
-    let a = i .before .before .before .before .before .before .before .before .args in
-    let p = c .before .before .before .points in
-    let fit = not-false _ (i .if1 .left) in
-    let h = fits (length (a .values .now)) 3 (length (a .out .now)) (a .layout .bytes) fit in
-    let told-all = all-told (length (a .values .now)) (length (a .values .now) / 3) (cutsOf (a .layout) (a .values .now)) (h .0) (h .1) (cuts-most (a .layout) (a .values .now)) in
-    counts-clamped _
-    (encode-points _ _ _ (told (i .before .before .before) .0) fit (sym (e .before .all-numbers .ensures) ∙ not-false _ (e .if2 .left)) ∙ ap (Points (length (a .values .now) / 3)) (sym (c .cuts-told .ensures ∙ ap cutsTold (p .ensures .0) ∙ told-all)))
-    (p .ensures .1)
+same-length-2 : tie.Need-same-length-2
+same-length-2 c = search needs
+
+returns-2 : tie.Need-returns-2
+returns-2 c = c .before .before .encode-points .ensures
 
 pub encode-line-spec : {M : Type 1} → statement M
 encode-line-spec =
     tie.close
-    (tie.spec
-    of-requires
-    enum-known-scales
-    enum-told
-    returns
-    cast-size
-    mul-if1
-    returns-2
-    all-numbers-requires
-    returns-3
-    points-requires
-    cuts-told-requires
-    same-length
-    returns-4)
+    (tie.spec grouped-requires encode-groups-requires encode-points-requires same-length returns same-length-2 returns-2)

@@ -4,7 +4,7 @@ use mathlib.Core.Path.{_≡_, sym, ap, _∙_}
 use mathlib.Core.Bool.{true, not}
 use borrow.Author.Tests.{eq-eqb, ne-eqb, not-false}
 use Rattle.lists.proofs.Tests.{and-left, stop, pass}
-use Rattle.layout.specs.Layout.{channelKnown, validLayout}
+use Rattle.layout.specs.Layout.{channelKnown, validPoints}
 use Rattle.field.specs.declared.field.Field.{Field}
 use Rattle.field.specs.declared.FieldCode.the-variants.{Code}
 use Rattle.field.specs.Answer.{fieldKnown, codeAnswer}
@@ -40,7 +40,7 @@ returns-3 c =
     let field = f .of .ensures in
     let count = e .if2 .left ∙ ap (λ (f : Field). f .count) field in
     sym (pass _ (ap not (known-so k)) (pass _ (ap not (eq-eqb _ _ count)) (ap Code (sym
-    (c .code .ensures ∙ ap (λ (f : Field). readCode f (a .bytes .now)) field ∙ read-is (a .layout) (a .channel) (a .bytes .now) (and-left (validLayout (a .layout)) (channelKnown (a .channel)) (known-so k)) count)))))
+    (c .code .ensures ∙ ap (λ (f : Field). readCode f (a .bytes .now)) field ∙ read-is (a .layout) (a .channel) (a .bytes .now) (and-left (validPoints (a .layout)) (channelKnown (a .channel)) (known-so k)) count)))))
 
 returns-2 : tie.Need-returns-2
 unfolding codeAnswer

@@ -5,14 +5,14 @@ use mathlib.Core.Bool.{_&&_}
 use Rattle.field.proofs.known.Statement.{statement}
 use Rattle.field.proofs.known.Tie as tie
 
-valid-requires : tie.Need-valid-requires
-valid-requires c κs = search needs
+valid-points-requires : tie.Need-valid-points-requires
+valid-points-requires c κs = search needs
 
 channel-known-requires : tie.Need-channel-known-requires
 channel-known-requires c κs = search needs
 
 returns : tie.Need-returns
-returns c = ap₂ _&&_ (c .before .valid .ensures) (c .channel-known .ensures)
+returns c = ap₂ _&&_ (c .before .valid-points .ensures) (c .channel-known .ensures)
 
 pub known-spec : {M : Type 1} → statement M
-known-spec = tie.close (tie.spec valid-requires channel-known-requires returns)
+known-spec = tie.close (tie.spec valid-points-requires channel-known-requires returns)

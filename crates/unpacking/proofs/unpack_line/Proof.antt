@@ -1,65 +1,36 @@
--- `unpacking::unpack_line` meets its contract, row by row. Assumes nothing.
+-- `unpacking::unpack_line` meets its contract: groups are answered by their own function, and points of their own by theirs. Assumes nothing.
 use borrow.Author.Needs.{needs}
-use mathlib.Core.Path.{_≡_, sym, _∙_}
-use mathlib.Core.Bool.{true}
-use native.Mathlib.Nat.{mul-comm}
-use Prim.Native.Nat.{_/_}
-use native.Mathlib.Omega.{arith}
-use borrow.Author.Tests.{not-true, not-false}
-use lib.ListN.{length}
-use Rattle.layout.specs.Layout.{validLayout}
-use Rattle.layout.proofs.Facts.{Valid, valid-says}
-use Rattle.line.proofs.Answers.{refuses, counts, fits, triple-le, unpack-outside, unpack-unfit, unpack-points}
+use mathlib.Core.Path.{sym, _∙_}
+use Rattle.lists.proofs.Tests.{stop}
 use Rattle.unpacking.proofs.unpack_line.Statement.{statement}
 use Rattle.unpacking.proofs.unpack_line.Tie as tie
 
-ok : (c : tie.Else1) → validLayout (c .before .before .before .before .args .layout) ≡ true
-ok c = sym (c .before .valid .ensures) ∙ not-false (c .before .valid .result) (c .if1 .left)
+grouped-requires : tie.Need-grouped-requires
+grouped-requires c κs = search needs
 
-facts : (c : tie.Else1) → Valid (c .before .before .before .before .args .layout)
-facts c = valid-says (c .before .before .before .before .args .layout) (ok c)
+unpack-groups-requires : tie.Need-unpack-groups-requires
+unpack-groups-requires c κs = search needs
 
-valid-requires : tie.Need-valid-requires
-valid-requires c κs = search needs
-
-returns : tie.Need-returns
-returns c = refuses _ _ (unpack-outside _ _ _ (sym (c .before .valid .ensures) ∙ not-true (c .before .valid .result) (c .if1 .taken)))
-
-cast-size : tie.Need-cast-size
-cast-size c = search needs
-
-div-n : tie.Need-div-n
-div-n c = omega (arith, facts (c .before))
-
-rem-if2 : tie.Need-rem-if2
-rem-if2 c = omega (arith, facts (c .before))
-
-mul-if2 : tie.Need-mul-if2
-mul-if2 c =
-    let a = c .before .before .before .before .before .args in
-    omega (arith, triple-le (length (a .packed .now)) (a .layout .bytes) (facts (c .before) .bytes-least))
-
-all-requires : tie.Need-all-requires
-all-requires c κs =
-    let i = c .before in
-    let s = i .before .before in
-    let a = s .before .before .before .before .args in
-    let n = length (a .packed .now) / a .layout .bytes in
-    let h = fits (length (a .packed .now)) (a .layout .bytes) (length (a .codes .now)) 3 (not-false _ (i .if2 .left)) in
-    (ok s, (h .0 ∙ mul-comm n (a .layout .bytes), h .2))
+unpack-points-requires : tie.Need-unpack-points-requires
+unpack-points-requires c κs = let k = c .before in sym (k .before .grouped .ensures) ∙ k .if1 .left
 
 same-length : tie.Need-same-length
 same-length c = search needs
 
-returns-2 : tie.Need-returns-2
-returns-2 c = refuses _ _ (unpack-unfit _ _ _ (ok (c .before .before)) (not-true _ (c .if2 .taken)))
+returns : tie.Need-returns
+returns c =
+    let k = c .before .before .before .before in
+    let r = c .before .before .unpack-groups .ensures in
+    let e = sym (k .before .grouped .ensures) ∙ k .if1 .taken in
+    (r .0 ∙ stop _ e, r .1 ∙ stop _ e)
 
-returns-3 : tie.Need-returns-3
-returns-3 c =
-    let i = c .before .before .before .before in
-    counts _ (unpack-points _ _ _ (ok (i .before .before)) (not-false _ (i .if2 .left))) (c .before .before .all .ensures)
+same-length-2 : tie.Need-same-length-2
+same-length-2 c = search needs
+
+returns-2 : tie.Need-returns-2
+returns-2 c = c .before .before .unpack-points .ensures
 
 pub unpack-line-spec : {M : Type 1} → statement M
 unpack-line-spec =
     tie.close
-    (tie.spec valid-requires returns cast-size div-n rem-if2 mul-if2 returns-2 all-requires same-length returns-3)
+    (tie.spec grouped-requires unpack-groups-requires unpack-points-requires same-length returns same-length-2 returns-2)

@@ -22,13 +22,10 @@ valid-requires c κs = search needs
 shared-slice-read-result-4 : tie.Need-shared-slice-read-result-4
 shared-slice-read-result-4 c = search needs
 
-shared-slice-read-result-5 : tie.Need-shared-slice-read-result-5
-shared-slice-read-result-5 c = search needs
-
 returns : tie.Need-returns
 unfolding frontRight
 returns c =
-    let v = c .before .before in
+    let v = c .before in
     rw (v .valid .ensures, v .before .before .before .least .ensures)
 
 pub front-right-spec : {M : Type 1} → statement M
@@ -41,5 +38,4 @@ front-right-spec =
     shared-slice-read-result-3
     valid-requires
     shared-slice-read-result-4
-    shared-slice-read-result-5
     returns)

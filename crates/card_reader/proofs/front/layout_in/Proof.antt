@@ -29,6 +29,9 @@ shared-slice-read-t15 c = search needs
 shared-slice-read-t17 : tie.Need-shared-slice-read-t17
 shared-slice-read-t17 c = search needs
 
+shared-slice-read-t19 : tie.Need-shared-slice-read-t19
+shared-slice-read-t19 c = search needs
+
 returns : tie.Need-returns
 unfolding layoutIn
 returns c = refl
@@ -45,4 +48,5 @@ layout-in-spec =
     shared-slice-read-t13
     shared-slice-read-t15
     shared-slice-read-t17
+    shared-slice-read-t19
     returns)

@@ -1,22 +1,36 @@
--- `card_table::edition::least` meets its contract, by the tests on the range and the depth. Assumes nothing.
-use mathlib.Core.Path.{refl, sym}
+-- `card_table::edition::least` meets its contract, by the tests on the sampling, the range and the depth. Assumes nothing.
+use mathlib.Core.Path.{refl, sym, _∙_}
 use borrow.Author.Tests.{eq-eqb, ne-eqb}
 use Rattle.lists.proofs.Tests.{pass, stop}
 use Rattle.card_table.specs.Edition.{leastEdition}
+use borrow.Author.Needs.{needs}
 use Rattle.card_table.proofs.edition.least.Statement.{statement}
 use Rattle.card_table.proofs.edition.least.Tie as tie
 
+grouped-requires : tie.Need-grouped-requires
+grouped-requires c κs = search needs
+
 returns : tie.Need-returns
 unfolding leastEdition
-returns c = sym (stop _ (eq-eqb _ _ (c .if1 .taken)))
+returns c = sym (stop _ (sym (c .before .grouped .ensures) ∙ c .if1 .taken))
 
 returns-2 : tie.Need-returns-2
 unfolding leastEdition
-returns-2 c = sym (pass _ (ne-eqb _ _ (c .before .if1 .left)) (stop _ (eq-eqb _ _ (c .if2 .taken))))
+returns-2 c = let p = c .before in sym (pass _ (sym (p .before .grouped .ensures) ∙ p .if1 .left) (stop _ (eq-eqb _ _ (c .if2 .taken))))
 
 returns-3 : tie.Need-returns-3
 unfolding leastEdition
-returns-3 c = sym (pass _ (ne-eqb _ _ (c .before .if1 .left)) (pass _ (ne-eqb _ _ (c .if2 .left)) refl))
+returns-3 c =
+    let r = c .before in
+    let p = r .before in
+    sym (pass _ (sym (p .before .grouped .ensures) ∙ p .if1 .left) (pass _ (ne-eqb _ _ (r .if2 .left)) (stop _ (eq-eqb _ _ (c .if3 .taken)))))
+
+returns-4 : tie.Need-returns-4
+unfolding leastEdition
+returns-4 c =
+    let r = c .before in
+    let p = r .before in
+    sym (pass _ (sym (p .before .grouped .ensures) ∙ p .if1 .left) (pass _ (ne-eqb _ _ (r .if2 .left)) (pass _ (ne-eqb _ _ (c .if3 .left)) refl)))
 
 pub least-spec : {M : Type 1} → statement M
-least-spec = tie.close (tie.spec returns returns-2 returns-3)
+least-spec = tie.close (tie.spec grouped-requires returns returns-2 returns-3 returns-4)

@@ -5,7 +5,7 @@ use Prim.Native.Nat.{_-_, _≤_}
 use native.Mathlib.Omega.{arith}
 use lib.Ieee.{nan}
 use lib.ListN.{length}
-use Rattle.decoding.specs.Decode.{valueAt}
+use Rattle.decoding.specs.inner.Points.{pointValue}
 use Rattle.line.specs.inner.Channels.{channelsWritten}
 use Rattle.line.proofs.Channels.{channels-none, channels-more, channels-all, length-channels}
 use Rattle.decoding.proofs.Values.{fitted-in, values-whole}
@@ -13,7 +13,7 @@ use Rattle.decoding.proofs.points.channels.Statement.{statement}
 use Rattle.decoding.proofs.points.channels.Tie as tie
 
 abbrev Inv-loop : tie.InvT-loop
-Inv-loop layout scales packed out₀ n k₀ out k = (k ≤ 3) × (out ≡ channelsWritten out₀ (valueAt layout packed) n k)
+Inv-loop layout scales packed out₀ n k₀ out k = (k ≤ 3) × (out ≡ channelsWritten out₀ (pointValue layout packed) n k)
 
 abbrev μ-loop : tie.MeasureT-loop
 μ-loop layout scales packed out₀ n k₀ out k = 3 - k
@@ -22,12 +22,12 @@ abbrev μ-loop : tie.MeasureT-loop
 long : (c : tie.At-loop Inv-loop μ-loop) → length (c .loop .out) ≡ length (c .before .before .before .args .out .now)
 long c =
     let a = c .before .before .before .args in
-    ap length (c .loop .inv .1) ∙ length-channels (valueAt (a .layout) (a .packed .now)) (a .out .now) (a .n) (c .loop .k)
+    ap length (c .loop .inv .1) ∙ length-channels (pointValue (a .layout) (a .packed .now)) (a .out .now) (a .n) (c .loop .k)
 
 loop-holds : tie.Need-loop-holds Inv-loop μ-loop
 loop-holds c =
     let a = c .before .before .args in
-    (omega arith, channels-none (valueAt (a .layout) (a .packed .now)) (a .out .now) (a .n))
+    (omega arith, channels-none (pointValue (a .layout) (a .packed .now)) (a .out .now) (a .n))
 
 scale-of-requires : tie.Need-scale-of-requires Inv-loop μ-loop
 scale-of-requires c κs = search needs
@@ -48,7 +48,7 @@ loop-again : tie.Need-loop-again Inv-loop μ-loop
 loop-again c =
     let l = c .before .before .before .before .before .before .loop in
     let a = c .before .before .before .before .before .before .before .before .before .args in
-    (omega arith, channels-more (valueAt (a .layout) (a .packed .now)) (a .out .now) (l .out) _ (a .n) (l .k) (l .inv .1) (c .before .before .one-channel .ensures))
+    (omega arith, channels-more (pointValue (a .layout) (a .packed .now)) (a .out .now) (l .out) _ (a .n) (l .k) (l .inv .1) (c .before .before .one-channel .ensures))
 
 same-length : tie.Need-same-length Inv-loop μ-loop
 same-length c = long (c .before)
@@ -58,7 +58,7 @@ returns c =
     let s = c .before .before .before .before in
     let a = s .args in
     let l = c .before .loop in
-    channels-all (valueAt (a .layout) (a .packed .now)) nan (a .out .now) (l .out) (a .n) (l .k) (omega arith) (s .pre .1 .1) (l .inv .1)
+    channels-all (pointValue (a .layout) (a .packed .now)) nan (a .out .now) (l .out) (a .n) (l .k) (omega arith) (s .pre .1 .1) (l .inv .1)
     ∙ values-whole (a .layout) (a .packed .now) (a .n) (s .pre .0 .0) (s .pre .1 .0)
 
 pub channels-spec : {M : Type 1} → statement M

@@ -5,14 +5,14 @@ use Prim.Native.Nat.{_*_, _-_, _≤_}
 use native.Mathlib.Omega.{arith}
 use Rattle.lists.proofs.Bytes.{are-bytes}
 use Rattle.lists.proofs.Filled.{Filled, filled-none, filled-length}
-use Rattle.decoding.specs.Decode.{valueAt}
+use Rattle.decoding.specs.inner.Points.{pointValue}
 use Rattle.field.proofs.Line.{point-reaches, next-point}
 use Rattle.decoding.proofs.Values.{values-more, values-all}
 use Rattle.decoding.proofs.points.points.Statement.{statement}
 use Rattle.decoding.proofs.points.points.Tie as tie
 
 abbrev Inv-loop : tie.InvT-loop
-Inv-loop layout scales packed out₀ n at₀ i₀ out at i = (i ≤ n) × (at ≡ i * layout .bytes) × Filled out₀ (valueAt layout packed) (3 * i) out
+Inv-loop layout scales packed out₀ n at₀ i₀ out at i = (i ≤ n) × (at ≡ i * layout .bytes) × Filled out₀ (pointValue layout packed) (3 * i) out
 
 abbrev μ-loop : tie.MeasureT-loop
 μ-loop layout scales packed out₀ n at₀ i₀ out at i = n - i

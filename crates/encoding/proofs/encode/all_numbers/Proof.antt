@@ -8,7 +8,7 @@ use lib.ListN.{length, drop, getD}
 use Rattle.lists.specs.Lists.{every}
 use Rattle.lists.proofs.Tests.{and-true}
 use Rattle.lists.proofs.Every.{every-next, every-end}
-use Rattle.encoding.proofs.Encodes.{eq-self}
+use Rattle.line_values.proofs.Encodes.{eq-self}
 use Rattle.encoding.proofs.encode.all_numbers.Statement.{statement}
 use Rattle.encoding.proofs.encode.all_numbers.Tie as tie
 

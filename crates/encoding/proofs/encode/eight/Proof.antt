@@ -8,7 +8,7 @@ use Rattle.lists.specs.Lists.{count}
 use Rattle.lists.specs.inner.Stores.{written}
 use Rattle.lists.proofs.Filled.{Filled, filled-none, filled-more, filled-all}
 use Rattle.line.specs.Line.{joined}
-use Rattle.encoding.specs.Encode.{quantizedOf, valueCut}
+use Rattle.line_values.specs.Encode.{quantizedOf, valueCut}
 use Rattle.encoding.proofs.Encodes.{cuts-le, cuts-on}
 use Rattle.encoding.proofs.encode.eight.Statement.{statement}
 use Rattle.encoding.proofs.encode.eight.Tie as tie

@@ -1,5 +1,6 @@
 -- `encoding::encode::joined` meets its contract. Assumes nothing.
 use borrow.Author.Needs.{needs}
+use mathlib.Core.Bool.{true}
 use mathlib.Core.Path.{_≡_, refl, sym, _∙_}
 use Prim.Native.Nat.{ℕ, _+_, _*_, _^_, _<_}
 use native.Mathlib.Nat.{add-zero}
@@ -10,12 +11,15 @@ use mir.Val.{boolByte}
 use Rattle.lists.specs.Lists.{oneIf}
 use Rattle.lists.proofs.Counts.{byte-of, one-le}
 use Rattle.fractions.specs.declared.Clamped.{Clamped}
+use Rattle.layout.specs.Layout.{validLayout}
+use Rattle.layout.proofs.Facts.{points-valid}
 use Rattle.scales.specs.Channel.{scaleAt}
 use Rattle.scales.specs.inner.Floats.{Fine}
 use Rattle.scales.proofs.Scales.{fine-at}
 use Rattle.packing.proofs.Fills.{join-is}
-use Rattle.encoding.specs.Encode.{quantizedOf, valueCut}
-use Rattle.encoding.proofs.Encodes.{number-at, placed, joined-by, cuts-more}
+use Rattle.line_values.specs.Encode.{quantizedOf, valueCut}
+use Rattle.line_values.proofs.Encodes.{number-at, placed}
+use Rattle.encoding.proofs.Encodes.{joined-by, cuts-more}
 use Rattle.encoding.proofs.encode.joined.Statement.{statement}
 use Rattle.encoding.proofs.encode.joined.Tie as tie
 
@@ -24,20 +28,23 @@ module _ (c : tie.After-code-of-number3) where
   abbrev s : tie.Start
   s = c .before .before .before .before .before .before .before
 
+  ok : validLayout (s .args .layout) ≡ true
+  ok = points-valid (s .args .layout) (s .pre .0)
+
   own : (j : ℕ) → Fine (scaleAt (s .args .layout) j)
-  own j = fine-at (s .args .layout) j (scaleAt (s .args .layout) j) (s .pre .0) refl
+  own j = fine-at (s .args .layout) j (scaleAt (s .args .layout) j) ok refl
 
   abbrev Placed : Clamped → ℕ → Type 0
   Placed r k = (r .code < 2 ^ s .args .layout .depth) × (r .code ≡ getD (quantizedOf (s .args .layout) (s .args .values .now)) k 0) × (boolByte (r .cut) ≡ oneIf (valueCut (s .args .layout) (s .args .values .now) k))
 
   code0 : Placed (c .before .before .before .before .code-of-number .result) (3 * s .args .i)
-  code0 = rw add-zero at (placed (s .args .layout) (s .args .values .now) (s .pre .0) (s .args .i) 0 _ _ refl (lit< tt) (omega arith) (rw (sym (add-zero (3 * s .args .i))) at (c .before .before .before .before .code-of-number .ensures (scaleAt (s .args .layout) 0) (own 0) (s .pre .1 .fitted0))))
+  code0 = rw add-zero at (placed (s .args .layout) (s .args .values .now) ok (s .args .i) 0 _ _ refl (lit< tt) (omega arith) (rw (sym (add-zero (3 * s .args .i))) at (c .before .before .before .before .code-of-number .ensures (scaleAt (s .args .layout) 0) (own 0) (s .pre .1 .fitted0))))
 
   code1 : Placed (c .before .before .code-of-number2 .result) (3 * s .args .i + 1)
-  code1 = placed (s .args .layout) (s .args .values .now) (s .pre .0) (s .args .i) 1 _ _ refl (lit< tt) (omega arith) (c .before .before .code-of-number2 .ensures (scaleAt (s .args .layout) 1) (own 1) (s .pre .1 .fitted1))
+  code1 = placed (s .args .layout) (s .args .values .now) ok (s .args .i) 1 _ _ refl (lit< tt) (omega arith) (c .before .before .code-of-number2 .ensures (scaleAt (s .args .layout) 1) (own 1) (s .pre .1 .fitted1))
 
   code2 : Placed (c .code-of-number3 .result) (3 * s .args .i + 2)
-  code2 = placed (s .args .layout) (s .args .values .now) (s .pre .0) (s .args .i) 2 _ _ refl (lit< tt) (omega arith) (c .code-of-number3 .ensures (scaleAt (s .args .layout) 2) (own 2) (s .pre .1 .fitted2))
+  code2 = placed (s .args .layout) (s .args .values .now) ok (s .args .i) 2 _ _ refl (lit< tt) (omega arith) (c .code-of-number3 .ensures (scaleAt (s .args .layout) 2) (own 2) (s .pre .1 .fitted2))
 
 mul-code-of-number : tie.Need-mul-code-of-number
 mul-code-of-number c = search needs

@@ -1,33 +1,34 @@
 -- `encoding::encode::points` meets its contract: each turn fills in eight points, and then one, and counts their cuts. Assumes nothing.
 use borrow.Author.Needs.{needs}
 use mathlib.Core.Path.{_≡_, refl, sym, ap, _∙_}
-use mathlib.Core.Bool.{true}
 use mathlib.Core.List.{List}
-use Prim.Native.Nat.{ℕ, _+_, _-_, _*_, _≤_, _<_}
+use Prim.Native.Nat.{ℕ, _+_, _-_, _*_, _≤_}
 use native.Mathlib.Omega.{arith}
 use lib.ListN.{length, getD}
 use Rattle.lists.specs.Lists.{count}
 use Rattle.lists.proofs.Filled.{Filled, filled-from}
 use Rattle.lists.proofs.Lists.{getD-tabulate}
-use Rattle.line.specs.Line.{joined, byteAt}
-use Rattle.packing.proofs.Bytes.{bytes-none, bytes-as, bytes-all}
+use Rattle.layout.proofs.Facts.{Points as PointFacts, points-say, not-grouped}
+use Rattle.line.specs.Line.{joined, pointByte}
+use Rattle.packing.proofs.Bytes.{bytes-none, bytes-as, number-at, bytes-all}
 use Rattle.packing.proofs.Fills.{eight-fills, one-fills}
-use Rattle.encoding.specs.Encode.{quantizedOf, valueCut}
+use Rattle.line_values.specs.Encode.{quantizedOf, valueCut}
 use Rattle.encoding.specs.inner.Floats.{InFloats}
-use Rattle.encoding.proofs.Encodes.{in-floats-fit, length-quantized, cuts-none, cuts-on, cuts-le, cuts-all}
+use Rattle.line_values.proofs.Encodes.{length-quantized}
+use Rattle.encoding.proofs.Encodes.{in-floats-fit, cuts-none, cuts-le, cuts-all}
 use Rattle.encoding.proofs.encode.points.Statement.{statement}
 use Rattle.encoding.proofs.encode.points.Tie as tie
 
 abbrev Inv-loop : tie.InvT-loop
 Inv-loop layout values out₀ n size floats all₀ i₀ out all i =
-    (i ≤ n) × Filled out₀ (byteAt layout (quantizedOf layout values)) (layout .bytes * i) out × (all ≡ count (3 * i) (valueCut layout values)) × InFloats layout floats
+    (i ≤ n) × Filled out₀ (pointByte layout (quantizedOf layout values)) (layout .bytes * i) out × (all ≡ count (3 * i) (valueCut layout values)) × InFloats layout floats
 
 abbrev μ-loop : tie.MeasureT-loop
 μ-loop layout values out₀ n size floats all₀ i₀ out all i = n - i
 
 abbrev Inv-loop2 : tie.InvT-loop2
 Inv-loop2 layout values out₀ n size floats all₀ i₀ out all i =
-    (i ≤ n) × (length out₀ ≡ layout .bytes * n) × Filled out₀ (byteAt layout (quantizedOf layout values)) (layout .bytes * i) out × (all ≡ count (3 * i) (valueCut layout values)) × InFloats layout floats
+    (i ≤ n) × (length out₀ ≡ layout .bytes * n) × Filled out₀ (pointByte layout (quantizedOf layout values)) (layout .bytes * i) out × (all ≡ count (3 * i) (valueCut layout values)) × InFloats layout floats
 
 abbrev μ-loop2 : tie.MeasureT-loop2
 μ-loop2 layout values out₀ n size floats all₀ i₀ out all i = n - i
@@ -37,6 +38,9 @@ Start = tie.Start Inv-loop μ-loop Inv-loop2 μ-loop2
 
 abbrev codes : Start → List ℕ
 codes s = quantizedOf (s .args .layout) (s .args .values .now)
+
+facts : (s : Start) → PointFacts (s .args .layout)
+facts s = points-say (s .args .layout) (s .pre .0 .0)
 
 cast-size : tie.Need-cast-size Inv-loop μ-loop Inv-loop2 μ-loop2
 cast-size c = omega arith
@@ -85,8 +89,8 @@ loop-again c =
     let e = c .before .before .before .before .before .before .eight in (
       omega arith,
       bytes-as _ _ refl (c .before .before .store-eight .ensures)
-          (eight-fills (s .args .layout) (s .pre .0 .0) (codes s) (s .args .out .now) (s .args .n) (s .pre .1 .2) (s .pre .1 .1) (e .result .numbers) (l .out) (l .i) (omega arith)
-          (λ j h. ap (λ (v : List ℕ). getD v j 0) (e .ensures .0) ∙ getD-tabulate 8 (λ k. joined (s .args .layout) (codes s) (l .i + k)) j 0 h) (l .inv .1)),
+          (eight-fills _ _ (facts s .bytes-least) (facts s .bytes-most) (s .args .out .now) (s .args .n) (s .pre .1 .2) (s .pre .1 .1) (e .result .numbers) (l .out) (l .i) (omega arith)
+          (λ k h j q. number-at (s .args .layout) (codes s) (l .i + k) _ j (ap (λ (v : List ℕ). getD v k 0) (e .ensures .0) ∙ getD-tabulate 8 (λ k. joined (s .args .layout) (codes s) (l .i + k)) k 0 h) q) (l .inv .1)),
       more (c .before .before .before .before),
       l .inv .3,
     )
@@ -132,7 +136,7 @@ loop2-again c =
     let p = c .before .before .before .before .before .joined in (
       omega arith,
       l .inv .1,
-      bytes-as _ _ refl (c .before .before .before .store-one .ensures) (one-fills (s .args .layout) (s .pre .0 .0) (codes s) _ (s .args .n) (s .pre .1 .2) (l .inv .1) (p .result .number) (l .out) (l .i) (omega arith) (p .ensures .0) (l .inv .2)),
+      bytes-as _ _ refl (c .before .before .before .store-one .ensures) (one-fills _ _ (facts s .bytes-least) (facts s .bytes-most) _ (s .args .n) (s .pre .1 .2) (l .inv .1) (p .result .number) (l .out) (l .i) (omega arith) (λ j q. number-at (s .args .layout) (codes s) (l .i) _ j (p .ensures .0) q) (l .inv .2)),
       one-more c,
       l .inv .4,
     )
@@ -144,7 +148,7 @@ returns : tie.Need-returns Inv-loop μ-loop Inv-loop2 μ-loop2
 returns c =
     let s = c .before .before .before .before .before .before .before .before in
     let l = c .before .loop2 in (
-      l .inv .3 ∙ cuts-all (s .args .layout) (s .args .values .now) (l .i) (s .args .n) (omega arith) (s .pre .1 .0),
+      l .inv .3 ∙ cuts-all (s .args .layout) (s .args .values .now) (l .i) (s .args .n) (omega arith) (s .pre .1 .0) (not-grouped (s .args .layout) (s .pre .0 .0)),
       bytes-all (s .args .layout) (codes s) _ _ (l .i) (s .args .n) (omega arith) (length-quantized (s .args .layout) (s .args .values .now) ∙ s .pre .1 .0) (l .inv .1) (l .inv .2),
     )
 

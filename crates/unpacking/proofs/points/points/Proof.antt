@@ -5,14 +5,14 @@ use Prim.Native.Nat.{_*_, _-_, _≤_}
 use native.Mathlib.Omega.{arith}
 use Rattle.lists.proofs.Bytes.{are-bytes}
 use Rattle.lists.proofs.Filled.{Filled, filled-none, filled-length}
-use Rattle.line.specs.Line.{codeAt}
+use Rattle.line.specs.Line.{pointCode}
 use Rattle.field.proofs.Line.{point-reaches, next-point}
 use Rattle.unpacking.proofs.Codes.{codes-more, codes-all}
 use Rattle.unpacking.proofs.points.points.Statement.{statement}
 use Rattle.unpacking.proofs.points.points.Tie as tie
 
 abbrev Inv-loop : tie.InvT-loop
-Inv-loop layout packed codes₀ n at₀ i₀ codes at i = (i ≤ n) × (at ≡ i * layout .bytes) × Filled codes₀ (codeAt layout packed) (3 * i) codes
+Inv-loop layout packed codes₀ n at₀ i₀ codes at i = (i ≤ n) × (at ≡ i * layout .bytes) × Filled codes₀ (pointCode layout packed) (3 * i) codes
 
 abbrev μ-loop : tie.MeasureT-loop
 μ-loop layout packed codes₀ n at₀ i₀ codes at i = n - i

@@ -1,0 +1,4 @@
+mod Groups
+mod Within
+mod Answers
+mod Examples
