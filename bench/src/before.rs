@@ -1,5 +1,7 @@
-//! An earlier state's library beside the present one. It is loaded as a shared
-//! object, so that the same names may be in both.
+//! An earlier state's library beside the present one. Both are loaded as shared objects,
+//! so that the same names may be in both, and are called in the same way: a call through a
+//! pointer that was found is not as long as one of a function that was linked, by up to
+//! two fifths of a short one.
 
 use std::ffi::{c_char, c_int, c_void, CStr, CString};
 use std::mem::transmute_copy;
@@ -10,8 +12,11 @@ use crate::plain::colors::Conversion;
 use crate::plain::layout::Numbers;
 use crate::plain::values::Setting;
 
-/// An earlier library, which stays loaded.
-pub struct Before(*mut c_void);
+/// The two libraries, which stay loaded.
+pub struct Before([*mut c_void; 2]);
+
+/// A job by the present library, and the same by the earlier one.
+pub type Both<J> = [J; 2];
 
 /// As [`LineJob`](crate::case::LineJob), by a function that was found.
 pub type LineBefore<S, I, O> = Box<dyn Fn(S, &[I], &mut [O], &mut u32) -> i64>;
@@ -44,122 +49,141 @@ const RTLD_NOW: c_int = 2;
 /// lent are looked at, and groups are to be left out. So are other entries whose parameters
 /// change. None if the earlier library does not have it.
 impl Before {
-    pub fn quantize(&self) -> Option<QuantizeBefore> {
-        let present: Quantize = ffi::imurraqi_quantize;
-        let entry = self.entry(c"imurraqi_quantize", present)?;
-        Some(Box::new(move |setting, value, cuts| {
-            let [model, range, depth, channel] = setting;
-            // SAFETY: nothing else uses the number of cuts.
-            unsafe { entry(model, range, depth, channel, value, cuts) }
+    pub fn quantize(&self) -> Option<Both<QuantizeBefore>> {
+        let linked: Quantize = ffi::imurraqi_quantize;
+        let entries = self.entries(c"imurraqi_quantize", linked)?;
+        Some(entries.map(|entry| -> QuantizeBefore {
+            Box::new(move |setting, value, cuts| {
+                let [model, range, depth, channel] = setting;
+                // SAFETY: nothing else uses the number of cuts.
+                unsafe { entry(model, range, depth, channel, value, cuts) }
+            })
         }))
     }
 
-    pub fn decode_point(&self) -> Option<DecodePointBefore> {
-        let present: DecodePoint = ffi::imurraqi_decode_point;
-        let entry = self.entry(c"imurraqi_decode_point", present)?;
-        Some(Box::new(move |layout, packed, point| {
-            // SAFETY: as for a line, and the point is three floats.
-            unsafe { entry(&layout, packed.as_ptr(), packed.len(), point) }
+    pub fn decode_point(&self) -> Option<Both<DecodePointBefore>> {
+        let linked: DecodePoint = ffi::imurraqi_decode_point;
+        let entries = self.entries(c"imurraqi_decode_point", linked)?;
+        Some(entries.map(|entry| -> DecodePointBefore {
+            Box::new(move |layout, packed, point| {
+                // SAFETY: as for a line, and the point is three floats.
+                unsafe { entry(&layout, packed.as_ptr(), packed.len(), point) }
+            })
         }))
     }
 
-    pub fn encode_point(&self) -> Option<EncodePointBefore> {
-        let present: EncodePoint = ffi::imurraqi_encode_point;
-        let entry = self.entry(c"imurraqi_encode_point", present)?;
-        Some(Box::new(move |layout, [x, y, z], out, cuts| {
-            // SAFETY: as for a line.
-            unsafe { entry(&layout, x, y, z, out.as_mut_ptr(), out.len(), cuts) }
+    pub fn encode_point(&self) -> Option<Both<EncodePointBefore>> {
+        let linked: EncodePoint = ffi::imurraqi_encode_point;
+        let entries = self.entries(c"imurraqi_encode_point", linked)?;
+        Some(entries.map(|entry| -> EncodePointBefore {
+            Box::new(move |layout, [x, y, z], out, cuts| {
+                // SAFETY: as for a line.
+                unsafe { entry(&layout, x, y, z, out.as_mut_ptr(), out.len(), cuts) }
+            })
         }))
     }
 
-    pub fn decode_line(&self) -> Option<LineBefore<Numbers, u8, f32>> {
+    pub fn decode_line(&self) -> Option<Both<LineBefore<Numbers, u8, f32>>> {
         self.line(c"imurraqi_decode_line", ffi::imurraqi_decode_line)
     }
 
-    pub fn encode_line(&self) -> Option<LineBefore<Numbers, f32, u8>> {
-        let present: EncodeLine = ffi::imurraqi_encode_line;
-        let entry = self.entry(c"imurraqi_encode_line", present)?;
-        Some(Box::new(move |layout, given, out, cuts| {
-            let (values, len) = (given.as_ptr(), given.len());
-            // SAFETY: as for the other lines.
-            unsafe { entry(&layout, values, len, out.as_mut_ptr(), out.len(), cuts) }
+    pub fn encode_line(&self) -> Option<Both<LineBefore<Numbers, f32, u8>>> {
+        let linked: EncodeLine = ffi::imurraqi_encode_line;
+        let entries = self.entries(c"imurraqi_encode_line", linked)?;
+        Some(entries.map(|entry| -> LineBefore<Numbers, f32, u8> {
+            Box::new(move |layout, given, out, cuts| {
+                let (values, len) = (given.as_ptr(), given.len());
+                // SAFETY: as for the other lines.
+                unsafe { entry(&layout, values, len, out.as_mut_ptr(), out.len(), cuts) }
+            })
         }))
     }
 
-    pub fn unpack_line(&self) -> Option<LineBefore<Numbers, u8, u16>> {
+    pub fn unpack_line(&self) -> Option<Both<LineBefore<Numbers, u8, u16>>> {
         self.line(c"imurraqi_unpack_line", ffi::imurraqi_unpack_line)
     }
 
-    pub fn pack_line(&self) -> Option<LineBefore<Numbers, u16, u8>> {
+    pub fn pack_line(&self) -> Option<Both<LineBefore<Numbers, u16, u8>>> {
         self.line(c"imurraqi_pack_line", ffi::imurraqi_pack_line)
     }
 
-    pub fn rgb_to_ycbcr(&self) -> Option<LineBefore<Conversion, u16, u16>> {
+    pub fn rgb_to_ycbcr(&self) -> Option<Both<LineBefore<Conversion, u16, u16>>> {
         self.convert(c"imurraqi_rgb_to_ycbcr", ffi::imurraqi_rgb_to_ycbcr)
     }
 
-    pub fn ycbcr_to_rgb(&self) -> Option<LineBefore<Conversion, u16, u16>> {
+    pub fn ycbcr_to_rgb(&self) -> Option<Both<LineBefore<Conversion, u16, u16>>> {
         self.convert(c"imurraqi_ycbcr_to_rgb", ffi::imurraqi_ycbcr_to_rgb)
     }
 }
 
 impl Before {
-    pub fn load(path: &str) -> Result<Before, String> {
-        let error = || format!("{path}: not a library that can be loaded");
-        let name = CString::new(path).map_err(|_| error())?;
-        // SAFETY: the name ends in a zero byte, and the library runs nothing when it
-        // is loaded.
-        let library = unsafe { dlopen(name.as_ptr(), RTLD_NOW) };
-        if library.is_null() {
-            return Err(error());
-        }
-        Ok(Before(library))
+    pub fn load([present, earlier]: Both<&str>) -> Result<Before, String> {
+        Ok(Before([loaded(present)?, loaded(earlier)?]))
     }
 
     fn line<I: 'static, O: 'static>(
         &self,
         name: &CStr,
-        present: Line<I, O>,
-    ) -> Option<LineBefore<Numbers, I, O>> {
-        let entry = self.entry(name, present)?;
-        Some(Box::new(move |layout, given, out, _| {
-            // SAFETY: the pointers are to as many elements as the lengths say, and
-            // nothing else uses the output.
-            unsafe {
-                entry(
-                    &layout,
-                    given.as_ptr(),
-                    given.len(),
-                    out.as_mut_ptr(),
-                    out.len(),
-                )
-            }
+        linked: Line<I, O>,
+    ) -> Option<Both<LineBefore<Numbers, I, O>>> {
+        let entries = self.entries(name, linked)?;
+        Some(entries.map(|entry| -> LineBefore<Numbers, I, O> {
+            Box::new(move |layout, given, out, _| {
+                let (elements, len) = (given.as_ptr(), given.len());
+                // SAFETY: the pointers are to as many elements as the lengths say, and
+                // nothing else uses the output.
+                unsafe { entry(&layout, elements, len, out.as_mut_ptr(), out.len()) }
+            })
         }))
     }
 
-    fn convert(&self, name: &CStr, present: Convert) -> Option<LineBefore<Conversion, u16, u16>> {
-        let entry = self.entry(name, present)?;
-        Some(Box::new(move |conversion, given, out, cuts| {
-            let [primaries, depth, range_in, range_out] = conversion;
-            let (codes, len) = (given.as_ptr(), given.len());
-            let (made, made_len) = (out.as_mut_ptr(), out.len());
-            // SAFETY: as for the other lines.
-            unsafe {
-                entry(
-                    primaries, depth, range_in, range_out, codes, len, made, made_len, cuts,
-                )
-            }
+    fn convert(
+        &self,
+        name: &CStr,
+        linked: Convert,
+    ) -> Option<Both<LineBefore<Conversion, u16, u16>>> {
+        let entries = self.entries(name, linked)?;
+        Some(entries.map(|entry| -> LineBefore<Conversion, u16, u16> {
+            Box::new(move |conversion, given, out, cuts| {
+                let [primaries, depth, range_in, range_out] = conversion;
+                let (codes, len) = (given.as_ptr(), given.len());
+                let (made, made_len) = (out.as_mut_ptr(), out.len());
+                // SAFETY: as for the other lines.
+                unsafe {
+                    entry(
+                        primaries, depth, range_in, range_out, codes, len, made, made_len, cuts,
+                    )
+                }
+            })
         }))
     }
 
-    /// The function of a name, of the present one's type. That must be a pointer to it: the
-    /// name of a function alone has a type of its own, which can only be the present one.
-    fn entry<F: Copy>(&self, name: &CStr, _present: F) -> Option<F> {
+    /// The two functions of a name, of the linked one's type. That must be a pointer to it:
+    /// the name of a function alone has a type of its own, which can only be the linked one.
+    fn entries<F: Copy>(&self, name: &CStr, _linked: F) -> Option<Both<F>> {
         const { assert!(size_of::<F>() == size_of::<*mut c_void>()) };
-        // SAFETY: the library is loaded, and the name ends in a zero byte.
-        let found = unsafe { dlsym(self.0, name.as_ptr()) };
+        // SAFETY: the libraries are loaded, and the name ends in a zero byte.
+        let found = self
+            .0
+            .map(|library| unsafe { dlsym(library, name.as_ptr()) });
         // SAFETY: F is a pointer to a function of the C interface, and has the same
         // parameters in both, or one more for the number of cuts, or a longer layout.
-        (!found.is_null()).then(|| unsafe { transmute_copy(&found) })
+        let entry = |found| unsafe { transmute_copy(&found) };
+        found
+            .iter()
+            .all(|found| !found.is_null())
+            .then(|| found.map(entry))
     }
+}
+
+fn loaded(path: &str) -> Result<*mut c_void, String> {
+    let error = || format!("{path}: not a library that can be loaded");
+    let name = CString::new(path).map_err(|_| error())?;
+    // SAFETY: the name ends in a zero byte, and the library runs nothing when it is
+    // loaded.
+    let library = unsafe { dlopen(name.as_ptr(), RTLD_NOW) };
+    if library.is_null() {
+        return Err(error());
+    }
+    Ok(library)
 }

@@ -4,7 +4,7 @@
 use std::hint::black_box;
 use std::rc::Rc;
 
-use crate::before::LineBefore;
+use crate::before::{Both, LineBefore};
 use crate::inputs::POINTS;
 use crate::side::{median, Side};
 use crate::stack_use;
@@ -46,10 +46,10 @@ pub struct Case {
     plain: Side,
     /// Plain Rust in lines of one point; none but for lines.
     plain_short: Option<Side>,
-    /// The library before, where it is given and has the entry.
-    before: Option<Side>,
-    /// The same at its lengths; none but for lines.
-    before_lengths: Vec<Side>,
+    /// The library called as the one before is, and that one, where it is given and has the entry.
+    before: Option<Both<Side>>,
+    /// The same at their lengths; none but for lines.
+    before_lengths: Vec<Both<Side>>,
     /// The library at each of the lengths that there are; none but for whole lines.
     lengths: Vec<Option<Side>>,
     is_line: bool,
@@ -171,10 +171,10 @@ impl Case {
     }
 
     /// Beside the library before, if it is given. An error if that answers other numbers.
-    pub fn beside(mut self, before: Option<Side>) -> Result<Case, String> {
+    pub fn beside(mut self, before: Option<Both<Side>>) -> Result<Case, String> {
         self.before = before;
-        if let Some(before) = &mut self.before {
-            let answers = [self.library.answers(), before.answers()];
+        if let Some(sides) = &mut self.before {
+            let answers = sides.each_mut().map(Side::answers);
             if answers[0] != answers[1] {
                 let what = "the library before answers other numbers,";
                 return Err(self.label.wrong(what, answers));
@@ -187,25 +187,26 @@ impl Case {
     pub fn beside_line<S, I, O>(
         self,
         line: Line<S, I>,
-        before: Option<LineBefore<S, I, O>>,
+        before: Option<Both<LineBefore<S, I, O>>>,
     ) -> Result<Case, String>
     where
         S: Copy + 'static,
         I: Clone + 'static,
         O: Copy + Default + 'static,
     {
-        let Some(job) = before.map(Rc::new) else {
+        let Some(jobs) = before.map(|jobs| jobs.map(Rc::new)) else {
             return Ok(self);
         };
-        let side = |length| {
-            let job = job.clone();
-            let job = move |numbers: S, given: &[I], made: &mut [O], cuts: &mut u32| {
-                job(numbers, given, made, cuts)
-            };
-            line_side(job, line.clone(), length)
+        let sides = |length| {
+            jobs.clone().map(|job| {
+                let job = move |numbers: S, given: &[I], made: &mut [O], cuts: &mut u32| {
+                    job(numbers, given, made, cuts)
+                };
+                line_side(job, line.clone(), length)
+            })
         };
-        let mut case = self.beside(Some(side(POINTS)))?;
-        case.before_lengths = BEFORE_LENGTHS.map(side).into();
+        let mut case = self.beside(Some(sides(POINTS)))?;
+        case.before_lengths = BEFORE_LENGTHS.map(sides).into();
         Ok(case)
     }
 
@@ -222,12 +223,12 @@ impl Case {
     /// the lengths: a processor learns the branches of a line that comes again.
     pub fn measure(&mut self, round: usize) {
         let mut programs = vec![&mut self.library, &mut self.plain];
-        programs.extend(&mut self.before);
+        programs.extend(self.before.iter_mut().flatten());
         measure_in_turn(programs, round);
         let lengths = self.lengths.iter_mut().flatten();
         let short = lengths
             .chain(&mut self.plain_short)
-            .chain(&mut self.before_lengths);
+            .chain(self.before_lengths.iter_mut().flatten());
         measure_in_turn(short.collect(), round);
     }
 
@@ -246,10 +247,9 @@ impl Case {
         median(self.library.over(&self.plain))
     }
 
-    /// The same to the library before.
+    /// The same of the library to the one before, both called in that one's way.
     pub fn before(&self) -> Option<f64> {
-        let before = self.before.as_ref()?;
-        Some(median(self.library.over(before)))
+        self.before.as_ref().map(present_over_before)
     }
 
     /// The library's ratio to plain Rust in lines of one point, which is the first of the
@@ -260,14 +260,10 @@ impl Case {
         Some(median(library.over(plain)))
     }
 
-    /// Its ratio to the library before at each of that one's lengths.
+    /// The same at each of their lengths.
     pub fn before_lengths(&self) -> [Option<f64>; BEFORE_LENGTHS.len()] {
         let mut before = self.before_lengths.iter();
-        BEFORE_LENGTHS.map(|length| {
-            let place = LENGTHS.iter().position(|other| *other == length)?;
-            let library = self.lengths.get(place)?.as_ref()?;
-            Some(median(library.over(before.next()?)))
-        })
+        BEFORE_LENGTHS.map(|_| before.next().map(present_over_before))
     }
 
     /// Nanoseconds a point at each of the lengths that there are.
@@ -288,6 +284,10 @@ impl Case {
             })
             .max_by(f64::total_cmp)
     }
+}
+
+fn present_over_before([present, before]: &Both<Side>) -> f64 {
+    median(present.over(before))
 }
 
 fn measure_in_turn(mut sides: Vec<&mut Side>, round: usize) {

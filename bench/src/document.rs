@@ -15,8 +15,10 @@ fn of_before() -> String {
     format!(
         "
 - *before*, *before at {lengths}*: how many times as long the library takes as it did in an earlier state, whose archive was
-  measured in the same rounds, along a whole line and in lines of so many points; again medians of the rounds' ratios. Empty
-  where an entry is not compared, and for groups. An earlier state may count no cuts, and so do less."
+  measured in the same rounds, along a whole line and in lines of so many points; again medians of the rounds' ratios. For
+  this both are loaded as shared objects and called through pointers, so that these columns do not follow from *library*:
+  the same machine code takes up to two fifths less or more time as it lies in the program and is called. Empty where an
+  entry is not compared, and for groups. An earlier state may count no cuts, and so do less."
     )
 }
 
@@ -68,36 +70,40 @@ Written by `bench/run --write`, from one run; `bench/run` alone prints the same 
 ## Shapes, and why they are exact
 
 What a line needs is worked out once (scales, rows, sizes). Every loop over a long line is of a shape that the compiler does two
-or more points of at a time, with SSE2 alone. Encoding and conversion do eight points a turn: all eight are worked out before any is stored.
+or more points of at a time, with SSE2 alone. Encoding and conversion do eight points a turn: all eight are worked out before
+any is stored.
 
-*Decoding* and *unpacking* take each code from the one to three bytes that hold its field, and look at no others. Where the three
-fields of a layout have the same count of bytes, one loop goes from point to point; else one loop follows the other, a channel
-each. Points of 4 bytes lost by it: four of them, 16 bytes, used to be loaded at once, and a code may no longer be taken out of
-more than its own bytes. The step from one point to the next is written as a sum of two halves, bytes / 2 + (bytes + 1) / 2. If it
-were a bare number, the compiler would take it for 1, and make a loop of four points at a time for that step, which no layout has; the true
-step would be left to a loop of one point at a time. It does not try that with a sum.
+*Decoding* and *unpacking* take each code from the one to three bytes that hold its field, and look at no others. Where the
+three fields of a layout have the same count of bytes, one loop goes from point to point; else one loop follows the other, a
+channel each. Points of 4 bytes lost by it: four of them, 16 bytes, used to be loaded at once, and a code may no longer be taken
+out of more than its own bytes. The step from one point to the next is written as a sum of two halves, bytes / 2 and
+(bytes + 1) / 2. If it were a bare number, the compiler would take it for 1, and make a loop of four points at a time for that step, which no
+layout has; the true step would be left to a loop of one point at a time. It does not try that with a sum.
 
-*Groups* have a loop of their own each, a group a turn; encoding does eight groups a turn. All that a turn reads is read before it stores anything, so that
-the compiler reads and stores it at once, or does several groups side by side. Packing looks for a code above 255 with an early exit: without one the
-compiler gathers codes of several groups from their places, and takes three times as long. The second point's colour is not read.
+*Groups* have a loop of their own each, a group a turn; encoding does eight groups a turn. All that a turn reads is read before
+it stores anything, so that the compiler reads and stores it at once, or does several groups side by side. Packing looks for a
+code above 255 with an early exit: without one the compiler gathers codes of several groups from their places, and takes three
+times as long. The second point's colour is not read.
 
 *Encoding* is one product and one sum in f64: t = v span + (base + 4096.5). v is an f32 of 24 digits and span has 13 at most, so
-that the product is exact. Two comparisons bring t to its ends, from low + 4096 to below high + 4097. From 4096 to below 8192 an f64 has 40
-digits below the binary point, and the code is bits 40 to 51 of its pattern: no cast, no division. The sum is the only step that can round. Say
-that v is m 2^-k, with m below 2^24. If k is 40 or less, t is a multiple of 2^-40 and is held exactly. If k is more, v is below
-2^24 2^-41, and the product below 2^12 2^-17 = 1/32; base + 4096.5 lies halfway between two whole numbers, so that t lies
-within 1/32 of there, and rounding it by 2^-41 at most leads to no other whole number. The code is the whole part of t, so it is
-right either way, and infinities are brought to the ends.
+that the product is exact. Two comparisons bring t to its ends, from low + 4096 to below high + 4097. From 4096 to below 8192 an
+f64 has 40 digits below the binary point, and the code is bits 40 to 51 of its pattern: no cast, no division. The sum is the
+only step that can round. Say that v is m 2^-k, with m below 2^24. If k is 40 or less, t is a multiple of 2^-40 and is held
+exactly. If k is more, v is below 2^24 2^-41, and the product below 2^12 2^-17 = 1/32; base + 4096.5 lies halfway between two
+whole numbers, so that t lies within 1/32 of there, and rounding it by 2^-41 at most leads to no other whole number. The code is
+the whole part of t, so it is right either way, and infinities are brought to the ends.
 
-*Conversion* is one division in f64 of whole numbers: (a x + b y + c z + d) / e, where x, y, z are codes of 12 bits at most, and d
-has, over e, the base, 1/2 for the rounding, and 4096. All products and sums stay below 2^53, so that they are exact, and e is at most
-2^40. A fraction with such a divisor that is no whole number is at least 2^-40 below the next one. The f64 nearest to it, which is
-a multiple of 2^-40 between 4096 and 8192, can then not pass that whole number, and whole numbers are held: so the whole part
-stays; and what lies outside the ends is brought to them. G' from narrow codes has its common factors taken out beforehand, since its sums would pass 2^53.
+*Conversion* is one division in f64 of whole numbers: (a x + b y + c z + d) / e, where x, y, z are codes of 12 bits at most, and
+d has, over e, the base, 1/2 for the rounding, and 4096. All products and sums stay below 2^53, so that they are exact, and e is
+at most 2^40. A fraction with such a divisor that is no whole number is at least 2^-40 below the next one. The f64 nearest to
+it, which is a multiple of 2^-40 between 4096 and 8192, can then not pass that whole number, and whole numbers are held: so the
+whole part stays; and what lies outside the ends is brought to them. G' from narrow codes has its common factors taken out
+beforehand, since its sums would pass 2^53.
 
-*Cuts* are one comparison more: whether bringing t to its ends changed it. For that the upper end is high + 4097 - 2^-40, the last f64
-whose whole part is the highest code, and the lower one low + 4096, or in full range, where -1/2 is cut, the f64 after it. The cuts of
-eight points are added up in 64 bits, as the codes are made; in 32 the compiler would have to narrow each comparison.
+*Cuts* are one comparison more: whether bringing t to its ends changed it. For that the upper end is high + 4097 - 2^-40, the
+last f64 whose whole part is the highest code, and the lower one low + 4096, or in full range, where -1/2 is cut, the f64 after
+it. The cuts of eight points are added up in 64 bits, as the codes are made; in 32 the compiler would have to narrow each
+comparison.
 "
     )
 }

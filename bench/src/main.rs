@@ -4,7 +4,7 @@ use std::env;
 use std::fs;
 use std::process::ExitCode;
 
-use crate::before::Before;
+use crate::before::{Before, Both};
 use crate::table::{Row, MOST_APART};
 
 mod before;
@@ -27,9 +27,11 @@ const DOCUMENT: &str = "docs/PERFORMANCE.md";
 
 fn main() -> ExitCode {
     let arguments: Vec<String> = env::args().skip(1).collect();
-    // bench/run puts it first, and has made a shared object of the archive.
+    // bench/run puts it first, and has made shared objects of both archives.
     let (before, others) = match arguments.as_slice() {
-        [name, path, others @ ..] if name == "--before" => (Some(path.as_str()), others),
+        [name, present, earlier, others @ ..] if name == "--before" => {
+            (Some([present.as_str(), earlier.as_str()]), others)
+        }
         others => (None, others),
     };
     let result = match others {
@@ -49,7 +51,7 @@ fn main() -> ExitCode {
 
 /// Whether no entry needs too much stack, no cost a point rises, and neither program
 /// decodes so slowly that it must do one point at a time.
-fn run(write: bool, before: Option<&str>) -> Result<bool, String> {
+fn run(write: bool, before: Option<Both<&str>>) -> Result<bool, String> {
     if !stack_use::is_seen() {
         return Err("the use of stack is not seen".to_string());
     }

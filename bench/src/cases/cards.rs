@@ -115,7 +115,7 @@ fn write(facts: Vec<Facts>, odd: Facts) -> Result<Case, String> {
         [0; BYTES],
         [
             |(edition, facts, length), out| {
-                library::cards::write(*edition, *facts, &mut out[..*length])
+                library::cards::write(*edition, facts, &mut out[..*length])
             },
             |(edition, facts, length), out| {
                 plain::cards::write(*edition, *facts, &mut out[..*length])

@@ -1,7 +1,7 @@
 //! Lines of codes between R'G'B' and Y'CbCr, smooth and random.
 
 use super::label;
-use crate::before::{Before, LineBefore};
+use crate::before::{Before, Both, LineBefore};
 use crate::case::{Case, Line, LineJob};
 use crate::inputs;
 use crate::library::lines as library;
@@ -19,7 +19,7 @@ struct Direction<'a> {
     /// That of the given codes: 0 for R'G'B', 1 for Y'CbCr.
     side: usize,
     jobs: [LineJob<Conversion, u16, u16>; 2],
-    before: &'a dyn Fn() -> Option<LineBefore<Conversion, u16, u16>>,
+    before: &'a dyn Fn() -> Option<Both<LineBefore<Conversion, u16, u16>>>,
 }
 
 pub fn cases(before: Option<&Before>) -> Result<Vec<Case>, String> {

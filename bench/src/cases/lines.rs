@@ -2,7 +2,7 @@
 //! and encoding in the other ranges, and lines of groups.
 
 use super::label;
-use crate::before::{Before, LineBefore};
+use crate::before::{Before, Both, LineBefore};
 use crate::case::{Case, Label, Line, LineJob};
 use crate::inputs::{self, packed_length, Forms, POINTS};
 use crate::library::lines as library;
@@ -153,7 +153,7 @@ impl Given<'_> {
         (elements, output): (&[I], usize),
         wrong: Option<I>,
         jobs: [LineJob<Numbers, I, O>; 2],
-        before: Option<LineBefore<Numbers, I, O>>,
+        before: Option<Both<LineBefore<Numbers, I, O>>>,
     ) -> Result<Vec<Case>, String>
     where
         I: Copy + 'static,

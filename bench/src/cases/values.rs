@@ -43,12 +43,14 @@ fn quantize(before: Option<&Before>) -> Result<Case, String> {
     let mut random = Random::new();
     let valued = |_| (setting(&mut random), random.value());
     let floats: Vec<(Setting, f32)> = (0..MANY).map(valued).collect();
-    let before = before.and_then(Before::quantize).map(|job| {
-        call_side(
-            move |(setting, value), cuts| job(*setting, *value, cuts),
-            floats.clone(),
-            NO_CUTS,
-        )
+    let before = before.and_then(Before::quantize).map(|jobs| {
+        jobs.map(|job| {
+            call_side(
+                move |(setting, value), cuts| job(*setting, *value, cuts),
+                floats.clone(),
+                NO_CUTS,
+            )
+        })
     });
     Case::calls(
         label("quantize", "one value", "any floats"),
@@ -77,12 +79,14 @@ fn decode_point(before: Option<&Before>) -> Result<Case, String> {
         (random.groups(), bytes, 4),
         (layout, bytes, length - 1),
     ];
-    let before = before.and_then(Before::decode_point).map(|job| {
-        call_side(
-            move |(layout, bytes, length), point| job(*layout, &bytes[..*length], point),
-            points.clone(),
-            [0.0; 3],
-        )
+    let before = before.and_then(Before::decode_point).map(|jobs| {
+        jobs.map(|job| {
+            call_side(
+                move |(layout, bytes, length), point| job(*layout, &bytes[..*length], point),
+                points.clone(),
+                [0.0; 3],
+            )
+        })
     });
     Case::calls(
         label("decode_point", "one point", "any layouts"),
@@ -116,14 +120,16 @@ fn encode_point(before: Option<&Before>) -> Result<Case, String> {
         (layout, values, length - 1),
         (layout, [0.0, 0.0, f32::NAN], length),
     ];
-    let before = before.and_then(Before::encode_point).map(|job| {
-        call_side(
-            move |(layout, values, length), (out, cuts): &mut ([u8; LONGEST], u32)| {
-                job(*layout, *values, &mut out[..*length], cuts)
-            },
-            points.clone(),
-            ([0; LONGEST], NO_CUTS),
-        )
+    let before = before.and_then(Before::encode_point).map(|jobs| {
+        jobs.map(|job| {
+            call_side(
+                move |(layout, values, length), (out, cuts): &mut ([u8; LONGEST], u32)| {
+                    job(*layout, *values, &mut out[..*length], cuts)
+                },
+                points.clone(),
+                ([0; LONGEST], NO_CUTS),
+            )
+        })
     });
     Case::calls(
         label("encode_point", "one point", "any layouts"),

@@ -11,7 +11,9 @@ pub fn read(card: &[u8], edition: u8, layout: &mut Numbers, numbers: &mut Number
     unsafe { ffi::imurraqi_card_read(card.as_ptr(), card.len(), edition, layout, numbers) }
 }
 
-pub fn write(edition: u8, facts: Facts, out: &mut [u8]) -> i64 {
+/// The facts stand where they are: a copy made here would be read back before it is
+/// stored, which costs some five nanoseconds that are not the library's.
+pub fn write(edition: u8, facts: &Facts, out: &mut [u8]) -> i64 {
     // SAFETY: as for `read`.
     unsafe {
         ffi::imurraqi_card_write(
