@@ -9,7 +9,7 @@ use lib.ListN.{length, getD}
 use Rattle.lists.specs.Lists.{tabulate}
 use Rattle.lists.proofs.Lists.{tabulate-same}
 use Rattle.layout.specs.declared.Layout.{Layout}
-use Rattle.layout.specs.Layout.{grouped, wholeGroups, validGroups}
+use Rattle.layout.specs.Layout.{grouped, wholeGroups, validGroups, validLayout}
 use Rattle.layout.proofs.Facts.{two-each, groups-say, groups-grouped}
 use Rattle.line.specs.Group.{groupCode, groupByte, secondColor}
 use Rattle.line.specs.Line.{pointCode, codeAt, pointsIn, codesOf, pointByte, byteAt, bytesFor, packedOf, looked, standsFor, shared}
@@ -87,3 +87,11 @@ module _ {A B : Type 0} (l : Layout) (answer other : A) (output kept : B) where
 
   pub of-points : grouped l ≡ false → (other ≡ ofGroups l answer other) × (kept ≡ ofGroups l output kept)
   of-points e = (sym (ap (λ (t : Bool). cond t answer other) e), sym (ap (λ (t : Bool). cond t output kept) e))
+
+  -- a layout that is not of groups, or not valid
+  pub of-neither : grouped l && validLayout l ≡ false → (validLayout l ≡ false → (other ≡ answer) × (kept ≡ output)) → (other ≡ ofGroups l answer other) × (kept ≡ ofGroups l output kept)
+  of-neither e f = go (grouped l) refl e
+    where
+      go : (t : Bool) → grouped l ≡ t → t && validLayout l ≡ false → (other ≡ ofGroups l answer other) × (kept ≡ ofGroups l output kept)
+      go true g v = of-groups g (f v)
+      go false g v = of-points g

@@ -7,4 +7,5 @@ mod Whole
 pub mod Accepted
 pub mod Looked
 mod Examples
+mod GroupExamples
 pub mod Claims

@@ -33,7 +33,7 @@ pub fn unpack_line(layout: Layout, packed: &[u8], codes: &mut [u16]) -> LineAnsw
     ensures memory { λ _. ⌜ now (codes .exit) ≡ unpackOutput layout (now (packed .entry)) (now (codes .entry)) ⌝ }
 {
     if layout.grouped() {
-        group_codes::unpack_groups(layout, packed, codes)
+        group_unpacking::unpack_groups(layout, packed, codes)
     } else {
         unpack_points(layout, packed, codes)
     }

@@ -11,8 +11,8 @@ use Rattle.scales.specs.inner.Fitted.{Fitted}
 use Rattle.scales.proofs.Scales.{scales-told, scales-unknown}
 use Rattle.line.specs.declared.LineAnswer.the-variants.{Points}
 use Rattle.line.proofs.Grouped.{of-groups, of-points}
+use Rattle.line.proofs.GroupAnswers.{unpack-sizes, unpack-outside, unpack-unfit, unpack-points}
 use Rattle.line.proofs.Answers.{refuses, counts}
-use Rattle.group_decoding.proofs.Answers.{fits, unpack-outside, unpack-unfit, unpack-points}
 use Rattle.group_decoding.proofs.decode_groups.Statement.{statement}
 use Rattle.group_decoding.proofs.decode_groups.Tie as tie
 
@@ -68,7 +68,7 @@ all-requires c κs =
     let s = i .before .before in
     let a = s .before .before .before .before .before .before .before .args in
     let t = told s in
-    let h = fits (length (a .packed .now)) (length (a .out .now)) (not-false _ (i .if2 .left)) in
+    let h = unpack-sizes (length (a .packed .now)) (length (a .out .now)) (not-false _ (i .if2 .left)) in
     ((valid-groups (a .layout) (t .1) (t .0), t .2), h)
 
 mul-t9 : tie.Need-mul-t9

@@ -13,10 +13,11 @@ use Rattle.scales.proofs.Scales.{scales-told, scales-unknown}
 use Rattle.line.specs.declared.ClampedAnswer.the-variants.{Points}
 use Rattle.line.specs.inner.Cuts.{cutsTold}
 use Rattle.line.proofs.Grouped.{group-packed, of-groups, of-points}
+use Rattle.line.proofs.GroupAnswers.{pack-sizes}
 use Rattle.line.proofs.Answers.{refuses-clamped, counts-clamped, all-told}
 use Rattle.line_values.specs.Encode.{cutsOf}
 use Rattle.line_values.proofs.Encodes.{cuts-most}
-use Rattle.group_encoding.proofs.Answers.{fits, encode-outside, encode-odd, encode-unfit, encode-not-number, encode-points}
+use Rattle.group_encoding.proofs.Answers.{encode-outside, encode-odd, encode-unfit, encode-not-number, encode-points}
 use Rattle.group_encoding.proofs.encode_groups.Statement.{statement}
 use Rattle.group_encoding.proofs.encode_groups.Tie as tie
 
@@ -36,7 +37,7 @@ fit : (c : tie.Else3)
     (length (a .values .now) ≡ 6 * n) × (length (a .out .now) ≡ 4 * n) × (n ≤ 2048)
 fit c =
     let a = c .before .before .before .before .before .before .before .before .before .before .args in
-    fits (length (a .values .now)) (length (a .out .now)) (c .before .if2 .left) (not-false _ (c .if3 .left))
+    pack-sizes (length (a .values .now)) (length (a .out .now)) (c .before .if2 .left) (not-false _ (c .if3 .left))
 
 grouped-requires : tie.Need-grouped-requires
 grouped-requires c κs = search needs

@@ -1,4 +1,0 @@
-mod Groups
-mod Within
-mod Answers
-mod Examples

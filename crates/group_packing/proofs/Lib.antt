@@ -1,0 +1,3 @@
+mod Bytes
+mod Small
+mod Answers
