@@ -128,7 +128,7 @@ pub(crate) fn points(
         let turn = eight(layout, floats, values, i);
         let numbers = turn.numbers;
         all += turn.cuts;
-        packing::store_eight(out, size, i, numbers);
+        packing::store_counted(out, size, i, numbers, all);
         i += 8;
     }
     while i < n {

@@ -117,7 +117,7 @@ pub(crate) fn groups(
         let turn = eight(layout, brightness, difference, values, i);
         let numbers = turn.numbers;
         all += turn.cuts;
-        packing::store_eight(out, 4, i, numbers);
+        packing::store_counted(out, 4, i, numbers, all);
         i += 8;
     }
     while i < n {

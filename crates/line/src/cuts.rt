@@ -3,7 +3,7 @@ ghost use mathlib.Core.Path.{_≡_};
 ghost use Rattle.line.specs.inner.Cuts.{cutsTold};
 
 // The most values of a line, and so the most that can be cut.
-const MOST_VALUES: u64 = 12288;
+pub const MOST_VALUES: u64 = 12288;
 
 // A number of cuts in 32 bits: at most as many as a line has values. (No line has more. But without that comparison the compiler
 // adds the cuts up in 32 bits, beside codes that are worked out in 64, and that takes longer.)

@@ -6,6 +6,7 @@ use native.Mathlib.Nat.{add-zero, mul-le-mul-left}
 use native.Mathlib.Numerals.{add-one}
 use native.Mathlib.Omega.{arith}
 use mathlib.Core.Bool.{Bool, true, false, cond}
+use borrow.Author.Tests.{le-leb}
 use lib.Dec.{lit<}
 use lib.ListN.{length, getD}
 use Rattle.lists.specs.inner.Stores.{written}
@@ -18,7 +19,7 @@ use Rattle.layout.specs.Layout.{validPoints}
 use Rattle.layout.proofs.Facts.{points-say}
 use Rattle.line.specs.Point.{inPlace}
 use Rattle.line.proofs.Joins.{machine-sum}
-use Rattle.packing.specs.inner.Store.{joinedBits, stored, pointsFit, storedLast, storedEight, storedOne}
+use Rattle.packing.specs.inner.Store.{joinedBits, stored, pointsFit, storedLast, storedEight, storedCounted, storedOne}
 use Rattle.packing.proofs.Fit.{PointsFit, fit-says, fit-is, eight-fit, point-fits}
 use Rattle.packing.proofs.Bytes.{number-more, bytes-as}
 
@@ -65,13 +66,17 @@ module _ (g : ℕ → ℕ) (b : ℕ) (b3 : 3 ≤ b) (b8 : b ≤ 8) (out : List �
       (number-more g b out (stored b v i 6 xs) (written (stored b v i 6 xs) (b * (i + 6)) (byteOf (getD v 6 0)) b) (i + 6) (getD v 6 0) b (omega arith) (is 6 (lit< tt)) (omega arith) (fits 6 (lit< tt))
       (run-filled g b v i out xs b8 6 (λ j p. (is j (omega arith), rw (sym (f .long)) (eight-fit b i 8 (length xs) r j (omega arith)))) f) refl) refl)
 
-  pub eight-fills : (v xs : List ℕ) (i : ℕ) → i + 8 ≤ n → ((k : ℕ) → k < 8 → (j : ℕ) → j < b → byteOf (getD v k 0) j ≡ g (b * (i + k) + j)) → Upto i xs → Upto (i + 8) (storedEight b v i xs)
+  eight-fills : (v xs : List ℕ) (i : ℕ) → i + 8 ≤ n → ((k : ℕ) → k < 8 → (j : ℕ) → j < b → byteOf (getD v k 0) j ≡ g (b * (i + k) + j)) → Upto i xs → Upto (i + 8) (storedEight b v i xs)
   unfolding storedEight
   eight-fills v xs i h is f = go (pointsFit b i 10 (length xs)) (fit-says b i 10 (length xs))
     where
       go : (t : Bool) → (t ≡ true → PointsFit b i 10 (length xs)) → Upto (i + 8) (cond t (stored b v i 8 xs) (storedLast b v i xs))
       go true r = run-filled g b v i out xs b8 8 (λ j p. (is j p, rw (sym (f .long)) (eight-fit b i 10 (length xs) (r refl) j (omega arith)))) f
       go false r = last-fills v xs i h is f
+
+  -- beside a count of cuts that can be
+  pub counted-fills : (v xs : List ℕ) (i cuts : ℕ) → i + 8 ≤ n → cuts ≤ 12288 → ((k : ℕ) → k < 8 → (j : ℕ) → j < b → byteOf (getD v k 0) j ≡ g (b * (i + k) + j)) → Upto i xs → Upto (i + 8) (storedCounted b v i cuts xs)
+  counted-fills v xs i cuts h few is f = bytes-as g b refl (stop _ (le-leb cuts 12288 few)) (eight-fills v xs i h is f)
 
   pub one-fills : (v : ℕ) (xs : List ℕ) (i : ℕ) → i < n → ((j : ℕ) → j < b → byteOf v j ≡ g (b * i + j)) → Upto i xs → Upto (i + 1) (storedOne b v i xs)
   unfolding storedOne

@@ -1,7 +1,7 @@
 // The numbers of points stored: eight of them, or one. What does not fit is not stored, so that these serve any caller.
 ghost use mathlib.Core.Path.{_≡_};
 ghost use Prim.Native.Nat.{_≤_};
-ghost use Rattle.packing.specs.inner.Store.{pointsFit, storedLast, storedEight, storedOne};
+ghost use Rattle.packing.specs.inner.Store.{pointsFit, storedLast, storedEight, storedCounted, storedOne};
 use crate::store::store_all;
 use crate::store::store_low;
 
@@ -29,13 +29,24 @@ fn store_last(out: &mut [u8], size: usize, i: usize, v: [u64; 8])
 
 // Stores the numbers of eight points, from point i on, at `size` bytes a point. Where two more points follow, each store has
 // eight bytes: what is more than a point falls on the points after it, which are stored later.
-pub fn store_eight(out: &mut [u8], size: usize, i: usize, v: [u64; 8])
-    ensures memory { λ _. ⌜ now (out .exit) ≡ storedEight size v i (now (out .entry)) ⌝ }
+fn store_eight(out: &mut [u8], size: usize, i: usize, v: [u64; 8])
+    ensures { λ _. ⌜ now (out .exit) ≡ storedEight size v i (now (out .entry)) ⌝ }
 {
     if points_fit(size, i, 10, out.len()) {
         store_all(out, size, i, v, 8);
     } else {
         store_last(out, size, i, v);
+    }
+}
+
+// The same beside a count of cuts, where that is no more than the values of a line, as it always is. With this comparison the
+// compiler counts the cuts of eight points before it stores them. Else it would put their comparisons off until after the store, and
+// keep all that is to be compared in memory until then: encoding would take a tenth longer.
+pub fn store_counted(out: &mut [u8], size: usize, i: usize, v: [u64; 8], cuts: u64)
+    ensures memory { λ _. ⌜ now (out .exit) ≡ storedCounted size v i cuts (now (out .entry)) ⌝ }
+{
+    if cuts <= line::MOST_VALUES {
+        store_eight(out, size, i, v);
     }
 }
 

@@ -8,6 +8,7 @@ use lib.ListN.{length, getD}
 use Rattle.lists.specs.Bytes.{byteOf}
 use Rattle.lists.specs.inner.Stores.{written}
 use Rattle.layout.specs.declared.Layout.{Layout}
+use Rattle.line.specs.Answer.{mostPoints}
 
 -- a code at a bit offset, in 64 bits
 abbrev pub shifted : ℕ → ℕ → ℕ
@@ -37,6 +38,10 @@ storedLast size v i xs =
 unfoldable pub storedEight : ℕ → List ℕ → ℕ → List ℕ → List ℕ
 unfolding stored storedLast
 storedEight size v i xs = cond (pointsFit size i 10 (length xs)) (stored size v i 8 xs) (storedLast size v i xs)
+
+-- the same, where so many cuts are no more than the values of a line
+abbrev pub storedCounted : ℕ → List ℕ → ℕ → ℕ → List ℕ → List ℕ
+storedCounted size v i cuts xs = cond (leb cuts (3 * mostPoints)) (storedEight size v i xs) xs
 
 -- of one
 unfoldable pub storedOne : ℕ → ℕ → ℕ → List ℕ → List ℕ

@@ -11,7 +11,7 @@ use Rattle.lists.proofs.Lists.{getD-tabulate}
 use Rattle.layout.proofs.Facts.{Points as PointFacts, points-say, not-grouped}
 use Rattle.line.specs.Line.{joined, pointByte}
 use Rattle.packing.proofs.Bytes.{bytes-none, bytes-as, number-at, bytes-all}
-use Rattle.packing.proofs.Fills.{eight-fills, one-fills}
+use Rattle.packing.proofs.Fills.{counted-fills, one-fills}
 use Rattle.line_values.specs.Encode.{quantizedOf, valueCut}
 use Rattle.encoding.specs.inner.Floats.{InFloats}
 use Rattle.line_values.proofs.Encodes.{length-quantized}
@@ -67,14 +67,18 @@ more c =
     let e = c .before .before .eight .result .cuts in
     ap (λ (k : ℕ). k + e) (l .inv .2) ∙ c .before .before .eight .ensures .1
 
-add-all : tie.Need-add-all Inv-loop μ-loop Inv-loop2 μ-loop2
-add-all c =
+-- no more than the values of a line
+few : (c : tie.After-struct-known2 Inv-loop μ-loop Inv-loop2 μ-loop2) → c .before .before .before .before .loop .all + c .before .before .eight .result .cuts ≤ 12288
+few c =
     let s = c .before .before .before .before .before .before .before .before .before in
     let l = c .before .before .before .before .loop in
     omega (arith, more c, cuts-le (s .args .layout) (s .args .values .now) (l .i + 8), s .pre .1 .2)
 
-store-eight-requires : tie.Need-store-eight-requires Inv-loop μ-loop Inv-loop2 μ-loop2
-store-eight-requires c κs = search needs
+add-all : tie.Need-add-all Inv-loop μ-loop Inv-loop2 μ-loop2
+add-all c = omega (arith, few c)
+
+store-counted-requires : tie.Need-store-counted-requires Inv-loop μ-loop Inv-loop2 μ-loop2
+store-counted-requires c κs = search needs
 
 add-i : tie.Need-add-i Inv-loop μ-loop Inv-loop2 μ-loop2
 add-i c = omega arith
@@ -88,8 +92,8 @@ loop-again c =
     let l = c .before .before .before .before .before .before .before .before .loop in
     let e = c .before .before .before .before .before .before .eight in (
       omega arith,
-      bytes-as _ _ refl (c .before .before .store-eight .ensures)
-          (eight-fills _ _ (facts s .bytes-least) (facts s .bytes-most) (s .args .out .now) (s .args .n) (s .pre .1 .2) (s .pre .1 .1) (e .result .numbers) (l .out) (l .i) (omega arith)
+      bytes-as _ _ refl (c .before .before .store-counted .ensures)
+          (counted-fills _ _ (facts s .bytes-least) (facts s .bytes-most) (s .args .out .now) (s .args .n) (s .pre .1 .2) (s .pre .1 .1) (e .result .numbers) (l .out) (l .i) _ (omega arith) (few (c .before .before .before .before))
           (λ k h j q. number-at (s .args .layout) (codes s) (l .i + k) _ j (ap (λ (v : List ℕ). getD v k 0) (e .ensures .0) ∙ getD-tabulate 8 (λ k. joined (s .args .layout) (codes s) (l .i + k)) k 0 h) q) (l .inv .1)),
       more (c .before .before .before .before),
       l .inv .3,
@@ -166,7 +170,7 @@ points-spec =
     add-loop
     eight-requires
     add-all
-    store-eight-requires
+    store-counted-requires
     add-i
     loop-less
     loop-again

@@ -13,7 +13,7 @@ use Rattle.scales.specs.Channel.{scaleAt}
 use Rattle.scales.specs.inner.Floats.{floatScale}
 use Rattle.line.specs.Group.{groupByte}
 use Rattle.packing.proofs.Bytes.{bytes-none, bytes-as}
-use Rattle.packing.proofs.Fills.{eight-fills, one-fills}
+use Rattle.packing.proofs.Fills.{counted-fills, one-fills}
 use Rattle.line_values.specs.Encode.{quantizedOf}
 use Rattle.line_values.proofs.Encodes.{length-quantized}
 use Rattle.group_encoding.specs.inner.Groups.{groupNumber, countedCut}
@@ -76,14 +76,18 @@ more c =
     let e = c .before .before .eight in
     ap (λ (k : ℕ). k + e .result .cuts) (l .inv .2) ∙ e .ensures .1
 
-add-all : tie.Need-add-all Inv-loop μ-loop Inv-loop2 μ-loop2
-add-all c =
+-- no more than the values of a line
+few : (c : tie.After-struct-known Inv-loop μ-loop Inv-loop2 μ-loop2) → c .before .before .before .before .loop .all + c .before .before .eight .result .cuts ≤ 12288
+few c =
     let s = c .before .before .before .before .before .before .before .before .before .before .before in
     let l = c .before .before .before .before .loop in
     omega (arith, more c, cuts-le (s .args .layout) (s .args .values .now) (l .i + 8), s .pre .1 .2)
 
-store-eight-requires : tie.Need-store-eight-requires Inv-loop μ-loop Inv-loop2 μ-loop2
-store-eight-requires c κs = search needs
+add-all : tie.Need-add-all Inv-loop μ-loop Inv-loop2 μ-loop2
+add-all c = omega (arith, few c)
+
+store-counted-requires : tie.Need-store-counted-requires Inv-loop μ-loop Inv-loop2 μ-loop2
+store-counted-requires c κs = search needs
 
 add-i : tie.Need-add-i Inv-loop μ-loop Inv-loop2 μ-loop2
 add-i c = omega arith
@@ -97,8 +101,8 @@ loop-again c =
     let l = c .before .before .before .before .before .before .before .before .loop in
     let e = c .before .before .before .before .before .before .eight in (
       omega arith,
-      bytes-as _ _ refl (c .before .before .store-eight .ensures)
-          (eight-fills (groupByte (codes s)) 4 (lit< tt) (lit< tt) (s .args .out .now) (s .args .n) (omega (arith, s .pre .1 .2)) (s .pre .1 .1) (e .result .numbers) (l .out) (l .i) (omega arith)
+      bytes-as _ _ refl (c .before .before .store-counted .ensures)
+          (counted-fills (groupByte (codes s)) 4 (lit< tt) (lit< tt) (s .args .out .now) (s .args .n) (omega (arith, s .pre .1 .2)) (s .pre .1 .1) (e .result .numbers) (l .out) (l .i) _ (omega arith) (few (c .before .before .before .before))
           (λ k h j q. quantized-bytes (s .args .layout) (s .args .values .now) (s .pre .0 .0) (l .i + k) j _ (omega (arith, s .pre .1 .0))
           (ap (λ (v : List ℕ). getD v k 0) (e .ensures .0) ∙ getD-tabulate 8 (λ k. groupNumber (codes s) (l .i + k)) k 0 h) q) (l .inv .1)),
       more (c .before .before .before .before),
@@ -179,7 +183,7 @@ groups-spec =
     add-loop
     eight-requires
     add-all
-    store-eight-requires
+    store-counted-requires
     add-i
     loop-less
     loop-again
