@@ -44,7 +44,8 @@
  *   13  a line not of whole points or groups or of over 4,096 points, not exactly
  *       the bytes of a field, or an output not exactly as long as needed
  *   14  a code too high for its depth  15  no such item
- *   16  of groups: an odd width, or an odd count of points to encode or pack */
+ *   16  of groups: an odd width, or an odd count of whole points to encode or
+ *       pack */
 #ifndef IMURRAQI_H
 #define IMURRAQI_H
 
@@ -104,7 +105,7 @@ int64_t imurraqi_encode_point(const uint8_t layout[9], float channel0,
  * groups, each value as the code that imurraqi_quantize answers. A group takes Cb
  * and Cr of its first point; those of the second are not looked at, and may be
  * not-a-number. Answers the count of points. Refused: 9, then of groups 16 for
- * an odd count of points, then 13, then 12.
+ * an odd count of whole points, then 13, then 12.
  * cuts: how many of the values that are looked at were cut, as imurraqi_quantize
  * tells it of each. */
 int64_t imurraqi_encode_line(const uint8_t layout[9], const float *values,
@@ -133,7 +134,7 @@ int64_t imurraqi_unpack_line(const uint8_t layout[9], const uint8_t *packed,
  * unused bits are zero. Codes are packed as they are: none is clamped, not even in
  * narrow range. A group takes Cb and Cr of its first point; those of the second are
  * not looked at, and may be any. Answers the count of points. Refused: 9, then of
- * groups 16 for an odd count of points, then 13, then 14. */
+ * groups 16 for an odd count of whole points, then 13, then 14. */
 int64_t imurraqi_pack_line(const uint8_t layout[9], const uint16_t *codes,
                            size_t len, uint8_t *out, size_t out_len);
 

@@ -10,8 +10,8 @@ use crate::Refusal;
 pub struct Clamped {
     /// The count of points.
     pub points: usize,
-    /// The number of values that were cut: the places of the line where
-    /// [`Quantized`](crate::Quantized) would say so.
+    /// The number of values that were cut: the places of the line that are looked at and
+    /// where [`Quantized`](crate::Quantized) would say so.
     pub cuts: usize,
 }
 

@@ -113,7 +113,7 @@ pub fn encode_point(layout: Layout, point: [f32; 3], out: &mut [u8]) -> Result<C
 /// each float as the code that [`quantize`](crate::quantize) answers, and cut where that
 /// says so. A group takes Cb and Cr of its first point; those of the second are not looked
 /// at, and may be not-a-number. Answers the count of points and the number of cuts.
-/// Refused: 9, then of groups 16 for an odd count of points, then 13, then 12.
+/// Refused: 9, then of groups 16 for an odd count of whole points, then 13, then 12.
 ///
 /// ```
 /// use imurraqi::{encode_line, Clamped, Layout, Refusal};
@@ -184,7 +184,7 @@ pub fn unpack_line(layout: Layout, packed: &[u8], out: &mut [u16]) -> Result<usi
 /// are zero. Codes are packed as they are: none is clamped, not even in narrow range. A
 /// group takes Cb and Cr of its first point; those of the second are not looked at, and
 /// may be any. Answers the count of points. Refused: 9, then of groups 16 for an odd
-/// count of points, then 13, then 14.
+/// count of whole points, then 13, then 14.
 ///
 /// ```
 /// use imurraqi::{encode_point, pack_line, Layout, Refusal, MOST_POINTS};

@@ -60,7 +60,7 @@ table! {
         not exactly the bytes of a field, or an output not exactly as long as needed";
     14 CODE_TOO_HIGH "a code is too high for its depth";
     15 NO_ITEM "no card that the edition reads has the item";
-    16 ODD_COUNT "of groups: an odd width, or an odd count of points to encode or pack";
+    16 ODD_COUNT "of groups: an odd width, or an odd count of whole points to encode or pack";
 }
 
 impl Refusal {

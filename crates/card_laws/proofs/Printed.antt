@@ -2,6 +2,7 @@
 use mathlib.Core.Path.{_≡_, refl, sym, ap, ap₂, _∙_}
 use mathlib.Core.Bool.{Bool, true, false, not, cond, _&&_, _||_, and-false, false≢true}
 use mathlib.Core.Logic.{_⊎_, inl, inr, ⊎-elim}
+use mathlib.Core.List.{_∷_}
 use Prim.Native.Nat.{ℕ, zero, suc, _≤_}
 use native.Mathlib.Omega.{arith}
 use borrow.Author.Tests.{leb-true, leb-false, le-leb, lt-leb, lt-ltb, le-ltb, eq-eqb, ne-eqb}
@@ -10,18 +11,18 @@ use lib.ListN.{length, getD}
 use Rattle.lists.specs.Bytes.{numberAt}
 use Rattle.lists.proofs.Tests.{and-left, and-right}
 use Rattle.layout.specs.Layout.{grouped}
+use Rattle.layout.proofs.Facts.{odd-of-groups}
 use Rattle.card_table.specs.Edition.{newest, editionKnown, hasAccess, leastEdition}
 use Rattle.card_table.specs.Facts.{closed, accessKnown, factsValid, oddWidth}
 use Rattle.card_table.specs.Access.{accessOf, tableHolds, accessUnknown}
-use Rattle.card_table.proofs.Width.{odd-width}
-use Rattle.card_table.specs.Table.{cardSize}
+use Rattle.card_table.specs.Table.{cardSize, cardBytes}
 use Rattle.card_reader.specs.declared.CardReading.{CardReading}
 use Rattle.card_reader.specs.declared.CardReading.the-variants.{Shown, Refused as NotShown}
-use Rattle.card_reader.specs.Reading.{writerOf, factsIn, frontRight, endWrong, readCard}
+use Rattle.card_reader.specs.Reading.{writerOf, layoutIn, factsIn, frontRight, endWrong, readCard}
 use Rattle.refusal.specs.declared.Written.the-variants.{Done, Refused}
 use Rattle.card_writer.specs.Writing.{unwritable, writeAnswer}
 use Rattle.card_laws.proofs.Valid.{at}
-use Rattle.card_laws.specs.Printed.{Row7, Row8, fromTwoToReader, Row9OfTheEnd, Row10, Row11, Row16, AccessShown, ClosedOrAsItStandsFrom2, ClosedToEdition1, ClosedFromEdition1, ClosedOrShownFrom2, ReadsAsEdition3, WritesAsEdition3}
+use Rattle.card_laws.specs.Printed.{Row7, Row8, fromTwoToReader, Row9OfTheEnd, Row10, Row11, Row16, AccessShown, ClosedOrAsItStandsFrom2, ClosedToEdition1, ClosedFromEdition1, ClosedOrShownFrom2, ReadsAsEdition3, ReadsItsOwnAsEdition3, WritesAsEdition3, WritesBytesOfEdition3}
 use Rattle.card_laws.proofs.Claims.{closed-or-as-it-stands, shows-valid-facts, rewrites-never-open}
 
 -- ---- tests of numbers
@@ -116,7 +117,7 @@ unfolding unwritable
 row-11 e f k = λ i. row-8 e f k i || at-one e (known-least e k) i && not (eqb (f .access) closed)
 
 pub row-16 : Row16
-row-16 = odd-width
+row-16 f = odd-of-groups (f .layout) (f .width)
 
 pub row-9-of-the-end : Row9OfTheEnd
 unfolding endWrong
@@ -179,3 +180,23 @@ writes-as-edition-3 f bytes g =
     go true d = refl
     go false true = refl
     go false false = refl
+
+pub reads-its-own-as-edition-3 : ReadsItsOwnAsEdition3
+unfolding readCard layoutIn factsIn frontRight leastEdition accessOf accessUnknown endWrong
+reads-its-own-as-edition-3 least others h =
+    let b = least ∷ 3 ∷ others in
+    let f = factsIn b 3 in
+    let answer : Bool → Bool → CardReading = λ t u.
+    cond (not (eqb (length b) cardSize)) (NotShown 1)
+    (cond (eqb least 0) (NotShown 9)
+    (cond t (NotShown 8)
+    (cond (not (eqb least (leastEdition f) && u && factsValid f && eqb (getD b 11 0) 0)) (NotShown 9)
+    (cond (oddWidth f) (NotShown 16)
+    (cond (not (accessKnown (getD b 24 0))) (NotShown 10)
+    (cond (not (eqb (numberAt b 25 7) 0)) (NotShown 9)
+    (Shown f))))))) in
+    ap₂ answer (le-ltb 4 least (omega arith) ∙ sym (le-ltb 3 least h)) (le-leb least 4 (omega arith) ∙ sym (le-leb least 3 h))
+
+pub writes-bytes-of-edition-3 : WritesBytesOfEdition3
+unfolding cardBytes
+writes-bytes-of-edition-3 f = refl

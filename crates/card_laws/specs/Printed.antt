@@ -3,16 +3,17 @@ use Prim.Native.Nat.{ℕ, _%_, _≤_}
 use mathlib.Core.Bool.{Bool, true, false, not, cond, _&&_, _||_}
 use mathlib.Core.Path.{_≡_}
 use mathlib.Core.Logic.{_⊎_}
-use mathlib.Core.List.{List}
+use mathlib.Core.List.{List, _∷_}
 use lib.Dec.{eqb, leb, ltb}
-use lib.ListN.{length, getD}
+use lib.ListN.{length, getD, set}
 use Rattle.lists.specs.Bytes.{numberAt}
 use Rattle.layout.specs.declared.Layout.{Layout}
 use Rattle.card_table.specs.declared.facts.Facts.{Facts}
 use Rattle.card_table.specs.Edition.{editionKnown, leastEdition}
 use Rattle.card_table.specs.Facts.{closed, oddWidth}
-use Rattle.card_reader.specs.declared.CardReading.the-variants.{Shown}
 use Rattle.card_table.specs.Access.{accessOf, accessUnknown}
+use Rattle.card_table.specs.Table.{cardBytes}
+use Rattle.card_reader.specs.declared.CardReading.the-variants.{Shown}
 use Rattle.card_reader.specs.Reading.{writerOf, endWrong, readCard}
 use Rattle.refusal.specs.declared.Written.the-variants.{Done}
 use Rattle.card_writer.specs.Writing.{unwritable, writeAnswer}
@@ -90,6 +91,14 @@ ClosedOrShownFrom2 =
 abbrev pub ReadsAsEdition3 : Type 0
 ReadsAsEdition3 = (b : List ℕ) → getD b 0 0 ≤ 3 → getD b 1 0 ≤ 3 → readCard b 4 ≡ readCard b 3
 
--- and writes what is not of groups where 3 does
+-- and its own, but those of groups, as 3 reads 3's
+abbrev pub ReadsItsOwnAsEdition3 : Type 0
+ReadsItsOwnAsEdition3 = (least : ℕ) (others : List ℕ) → least ≤ 3 → readCard (least ∷ 4 ∷ others) 4 ≡ readCard (least ∷ 3 ∷ others) 3
+
+-- it writes what is not of groups where 3 does
 abbrev pub WritesAsEdition3 : Type 0
 WritesAsEdition3 = (f : Facts) (bytes : ℕ) → eqb (f .layout .sampling) 1 ≡ false → writeAnswer 4 f bytes ≡ writeAnswer 3 f bytes
+
+-- and the same bytes but for its number
+abbrev pub WritesBytesOfEdition3 : Type 0
+WritesBytesOfEdition3 = (f : Facts) → cardBytes 4 f ≡ set (cardBytes 3 f) 1 4

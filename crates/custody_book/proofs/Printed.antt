@@ -2,12 +2,15 @@
 use mathlib.Core.Path.{_≡_, refl, sym, ap, ap₂, _∙_}
 use mathlib.Core.Bool.{Bool, true, false, not, cond, _&&_, _||_, and-false, false≢true}
 use mathlib.Core.List.{List, [], _∷_}
-use Prim.Native.Nat.{ℕ}
-use borrow.Author.Tests.{not-true}
-use lib.Dec.{eqb, ltb}
+use Prim.Native.Nat.{ℕ, _*_, _/_, _%_, _≤_, _<_}
+use native.Mathlib.Omega.{arith}
+use borrow.Author.Tests.{not-true, eqb-true, leb-true, leb-false, le-leb, lt-leb}
+use lib.Dec.{eqb, leb, ltb}
 use lib.ListN.{length}
 use Rattle.lists.specs.Lists.{every}
 use Rattle.lists.proofs.Tests.{and-left, and-right, and3}
+use Rattle.layout.proofs.Facts.{groups-say}
+use Rattle.line.proofs.Grouped.{group-points}
 use Rattle.card_table.specs.declared.facts.Facts.{Facts}
 use Rattle.card_table.specs.Edition.{editionKnown, hasAccess, leastEdition}
 use Rattle.card_table.specs.Facts.{closed}
@@ -17,7 +20,7 @@ use Rattle.refusal.specs.declared.Written.{Written}
 use Rattle.card_laws.proofs.Printed.{row-7, row-8, by-edition}
 use Rattle.custody_book.specs.History.{Rewrite, Asked, Trace, History}
 use Rattle.custody_book.specs.Meaning.{readingOf, refused, notShown, EachRight, EachRight.none, EachRight.each, acceptedAt}
-use Rattle.custody_book.specs.Printed.{Wording, RewriteWorded, EachWorded, EachWorded.none as no-more, EachWorded.each as one-more, Worded, twoToFour, words, MeansAsPrinted, oneOrTwo, laterThanTwo, firstWords, PrintedAsFirst, AccessPrinted}
+use Rattle.custody_book.specs.Printed.{Wording, RewriteWorded, EachWorded, EachWorded.none as no-more, EachWorded.each as one-more, Worded, twoToFour, words, MeansAsPrinted, oneOrTwo, laterThanTwo, firstWords, PrintedAsFirst, AccessPrinted, CapturedGroups}
 
 -- ---- one wording for another, where they say the same of every edition that is asked
 
@@ -134,3 +137,17 @@ printed-as-first a h t m =
 
 pub access-printed : AccessPrinted
 access-printed e access = by-edition (λ e. cond (hasAccess e) access closed ≡ cond (eqb e 1) closed access) refl refl refl refl e
+
+-- ---- captured lines
+
+pub captured-groups : CapturedGroups
+captured-groups l packed ok =
+    ap₂ (λ (x n : ℕ). eqb (length packed % x) 0 && leb n 4096) (groups-say l ok .bytes) (group-points l ok (length packed)) ∙ go (length packed)
+  where
+    go : (n : ℕ) → eqb (n % 4) 0 && leb (2 * (n / 4)) 4096 ≡ eqb (n % 4) 0 && leb n 8192
+    go n = by (eqb (n % 4) 0) (eqb-true (n % 4) 0) (leb n 8192) (leb-true n 8192) (leb-false n 8192)
+      where
+        by : (whole : Bool) → (whole ≡ true → n % 4 ≡ 0) → (few : Bool) → (few ≡ true → n ≤ 8192) → (few ≡ false → 8192 < n) → whole && leb (2 * (n / 4)) 4096 ≡ whole && few
+        by true w true f g = let z = f refl in le-leb (2 * (n / 4)) 4096 (omega arith)
+        by true w false f g = lt-leb (2 * (n / 4)) 4096 (omega (arith, w refl, g refl))
+        by false w few f g = refl

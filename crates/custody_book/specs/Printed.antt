@@ -1,12 +1,14 @@
 -- Those sentences of demand 3 that name editions, with the editions' numbers: as they read since request A6, over editions 1 to 4, and as the customer first worded them, of editions 1 and 2. specs/Meaning.antt has all of the demand over all editions that there are. proofs/Printed.antt proves each claim. Assumes nothing.
-use Prim.Native.Nat.{ℕ}
+use Prim.Native.Nat.{ℕ, _%_}
 use mathlib.Core.Bool.{Bool, true, false, not, cond, _&&_, _||_}
 use mathlib.Core.Path.{_≡_}
 use mathlib.Core.List.{List, [], _∷_}
-use lib.Dec.{eqb}
+use lib.Dec.{eqb, leb}
 use lib.Ieee.{Float}
 use lib.ListN.{length}
 use Rattle.lists.specs.Lists.{every}
+use Rattle.layout.specs.declared.Layout.{Layout}
+use Rattle.layout.specs.Layout.{validGroups}
 use Rattle.line.specs.declared.LineAnswer.{LineAnswer}
 use Rattle.card_table.specs.declared.facts.Facts.{Facts}
 use Rattle.card_table.specs.Edition.{editionKnown}
@@ -17,7 +19,7 @@ use Rattle.card_reader.specs.declared.CardReading.the-variants.{Shown}
 use Rattle.refusal.specs.declared.Written.{Written}
 use Rattle.card_laws.specs.Printed.{lacksLayout}
 use Rattle.custody_book.specs.History.{Rewrite, Asked, Trace, Trace.ended, Trace.rewritten, History}
-use Rattle.custody_book.specs.Book.{accessAt}
+use Rattle.custody_book.specs.Book.{accessAt, captured}
 use Rattle.custody_book.specs.Meaning.{readingOf, refused, notShown, acceptedAt, Meaning}
 
 -- ---- the sentences, which are the same both times but for the editions in them
@@ -105,3 +107,8 @@ PrintedAsFirst = (a : Asked) (h : History) → withoutLater a ≡ true → Print
 
 abbrev pub AccessPrinted : Type 0
 AccessPrinted = (e access : ℕ) → editionKnown e ≡ true → accessAt e access ≡ cond (eqb e 1) closed access
+
+-- ---- a captured line of groups (A6) is whole groups of four bytes, 4,096 points at most
+
+abbrev pub CapturedGroups : Type 0
+CapturedGroups = (l : Layout) (packed : List ℕ) → validGroups l ≡ true → captured l packed ≡ eqb (length packed % 4) 0 && leb (length packed) 8192

@@ -33,10 +33,10 @@ use Rattle.line_values.specs.Encode.{valueCode, quantizedOf, valueCut, cutsOf, 
 use Rattle.line_values.proofs.Encodes.{length-quantized}
 use Rattle.line_values.specs.Decode.{valuesOf, decodeAnswer, decodeOutput}
 use Rattle.decoding.proofs.One.{firstOf, shown, as-line, no-point}
-use Rattle.scanline_laws.proofs.Accepted.{points-in, even-points, odd-points, part-points, can-pack, unpacking-accepted}
+use Rattle.scanline_laws.proofs.Accepted.{points-in, even-points, odd-points, part-points, too-many, can-pack, unpacking-accepted}
 use Rattle.scanline_laws.proofs.Looked.{stands-looked, stands-before, itself, length-shared, shared-at, every-shared, shared-alike, packed-alike}
 use Rattle.scanline_laws.proofs.Claims.{packs-what-was-unpacked, packs-back-whole, unpacks-what-was-packed, packs-to-bytes, packs-unused-bits-as-zero, encodes-to-codes, length-codes, no-points, counts-empty-lines as empty-lines}
-use Rattle.decoding_laws.specs.Claims.{clampedTo, quantizedAt, saysCut, ValueLine, DecodesLines, LeavesValues, RefusesOtherOutputs, DecodesEachCode, QuantizesWhatWasDecoded, EncodesEachValue, CountsEachCut, EncodesWithinEnds, EncodesWhatWasDecoded, AnyLineComesBack, AnyLineReturns, WholeLinesReturn, RefusesOddCounts, RefusesPartsOfPoints, CountsEmptyLines, DecodesPointAsLine, RefusesPointAsLine, RefusesPointsOfGroups, EncodesWithoutLooking}
+use Rattle.decoding_laws.specs.Claims.{clampedTo, quantizedAt, saysCut, ValueLine, DecodesLines, LeavesValues, RefusesOtherOutputs, DecodesEachCode, QuantizesWhatWasDecoded, EncodesEachValue, CountsEachCut, EncodesWithinEnds, EncodesWhatWasDecoded, AnyLineComesBack, AnyLineReturns, WholeLinesReturn, RefusesOddCounts, RefusesTooMany, RefusesPartsOfPoints, CountsEmptyLines, DecodesPointAsLine, RefusesPointAsLine, RefusesPointsOfGroups, EncodesWithoutLooking}
 use Rattle.decoding_laws.proofs.Values.{number-coded, length-values, codes-back, cuts-back, none-clamped, all-numbers, as-dequantized, values-of, three}
 
 pub decodes-lines : DecodesLines
@@ -177,6 +177,10 @@ whole-lines-return l n s p h every x floats bytes ef eb = any-line-returns l n s
 pub refuses-odd-counts : RefusesOddCounts
 unfolding encodeAnswer
 refuses-odd-counts l g bytes vs ok e = pass _ (ap not (groups-valid l ok)) (stop _ (odd-points l ok g (length vs) e))
+
+pub refuses-too-many : RefusesTooMany
+unfolding encodeAnswer
+refuses-too-many l n bytes vs ok w h e = pass _ (ap not ok) (pass _ (even-points l ok n w (length vs) e) (stop _ (ap not (too-many l n (length vs) bytes h e))))
 
 pub refuses-parts-of-points : RefusesPartsOfPoints
 unfolding encodeAnswer

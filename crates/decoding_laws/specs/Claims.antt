@@ -124,9 +124,12 @@ WholeLinesReturn =
     → (floats : List Float) (bytes : List ℕ) → length floats ≡ 3 * n → length bytes ≡ length s
     → encodeOutput l (decodeOutput l s floats) bytes ≡ s
 
--- encoding refuses by 16 and by 13 as packing does: of groups an odd count of whole points by 16, and any line that is not of whole points by 13
+-- encoding refuses by 16 and by 13 as packing does: of groups an odd count of whole points by 16, and any line of more than 4,096 points that is not odd, or that is not of whole points, by 13
 abbrev pub RefusesOddCounts : Type 0
 RefusesOddCounts = (l : Layout) (g bytes : ℕ) (vs : List Float) → validGroups l ≡ true → length vs ≡ 3 * (2 * g + 1) → encodeAnswer l vs bytes ≡ NotClamped oddCount
+
+abbrev pub RefusesTooMany : Type 0
+RefusesTooMany = (l : Layout) (n bytes : ℕ) (vs : List Float) → validLayout l ≡ true → wholeGroups l n ≡ true → mostPoints < n → length vs ≡ 3 * n → encodeAnswer l vs bytes ≡ NotClamped wrongLineOrOutput
 
 abbrev pub RefusesPartsOfPoints : Type 0
 RefusesPartsOfPoints = (l : Layout) (bytes : ℕ) (vs : List Float) → validLayout l ≡ true → eqb (length vs % 3) 0 ≡ false → encodeAnswer l vs bytes ≡ NotClamped wrongLineOrOutput

@@ -53,8 +53,9 @@ pub fn encode_point(layout: Layout, point: Point, out: &mut [u8]) -> ClampedAnsw
     ensures memory { λ _. ⌜ now (out .exit) ≡ encodePointOutput layout point (now (out .entry)) ⌝ }
 {
     if layout.grouped() {
-        return ClampedAnswer::Refused(refusal::OUTSIDE);
+        ClampedAnswer::Refused(refusal::OUTSIDE)
+    } else {
+        let values = [point.channel0, point.channel1, point.channel2];
+        encode_points(layout, &values, out)
     }
-    let values = [point.channel0, point.channel1, point.channel2];
-    encode_points(layout, &values, out)
 }

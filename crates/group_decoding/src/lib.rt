@@ -3,7 +3,7 @@
 ghost use mathlib.Core.Path.{_≡_};
 ghost use lib.ListN.{length};
 ghost use Rattle.line.specs.declared.LineAnswer.the-variants.{Refused};
-ghost use Rattle.line.specs.inner.Groups.{ofGroups};
+ghost use Rattle.line.specs.Answer.{ofGroups};
 ghost use Rattle.refusal.specs.Refusal.{outside};
 ghost use Rattle.line_values.specs.Decode.{decodeAnswer, decodeOutput};
 use layout::Layout;

@@ -3,7 +3,7 @@
 ghost use mathlib.Core.Path.{_≡_};
 ghost use lib.ListN.{length};
 ghost use Rattle.line.specs.declared.ClampedAnswer.the-variants.{Refused};
-ghost use Rattle.line.specs.inner.Groups.{ofGroups};
+ghost use Rattle.line.specs.Answer.{ofGroups};
 ghost use Rattle.refusal.specs.Refusal.{outside};
 ghost use Rattle.line_values.specs.Encode.{encodeAnswer, encodeOutput};
 use layout::Layout;

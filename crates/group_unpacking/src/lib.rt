@@ -7,8 +7,8 @@ ghost use Rattle.lists.specs.inner.Stores.{written};
 ghost use Rattle.refusal.specs.Refusal.{outside};
 ghost use Rattle.line.specs.declared.LineAnswer.the-variants.{Refused};
 ghost use Rattle.line.specs.Group.{byteOfCode};
-ghost use Rattle.line.specs.Answer.{unpackAnswer, unpackOutput};
-ghost use Rattle.line.specs.inner.Groups.{groupCodes, ofGroups};
+ghost use Rattle.line.specs.Answer.{unpackAnswer, unpackOutput, ofGroups};
+ghost use Rattle.line.specs.inner.Groups.{groupCodes};
 use layout::Layout;
 use line::LineAnswer;
 

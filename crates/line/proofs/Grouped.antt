@@ -13,8 +13,8 @@ use Rattle.layout.specs.Layout.{grouped, wholeGroups, validGroups, validLayout}
 use Rattle.layout.proofs.Facts.{two-each, groups-say, groups-grouped}
 use Rattle.line.specs.Group.{groupCode, groupByte, secondColor}
 use Rattle.line.specs.Line.{pointCode, codeAt, pointsIn, codesOf, pointByte, byteAt, bytesFor, packedOf, looked, standsFor, shared}
-use Rattle.line.specs.Answer.{mostPoints, wholePoints, unpackable, oddPoints, packable}
-use Rattle.line.specs.inner.Groups.{groupCodes, groupsPacked, groupShared, ofGroups}
+use Rattle.line.specs.Answer.{mostPoints, wholePoints, unpackable, oddPoints, packable, ofGroups}
+use Rattle.line.specs.inner.Groups.{groupCodes, groupsPacked, groupShared}
 
 module _ (l : Layout) (ok : validGroups l ≡ true) where
   yes : grouped l ≡ true

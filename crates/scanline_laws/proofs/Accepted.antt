@@ -1,11 +1,11 @@
 -- A line of a valid layout, of no more points than a line may have, is accepted into an output of its own length. Assumes nothing.
 use mathlib.Core.Path.{_≡_, sym, ap, ap₂, _∙_}
-use mathlib.Core.Bool.{Bool, true, false, not, _&&_}
+use mathlib.Core.Bool.{Bool, true, false, not, _&&_, and-false}
 use mathlib.Core.List.{List}
 use Prim.Native.Nat.{ℕ, _+_, _*_, _/_, _%_, _≤_, _<_}
 use native.Mathlib.Nat.{mul-comm, mul-div-cancel, mul-mod-left, div-add-mod'}
 use native.Mathlib.Omega.{arith}
-use borrow.Author.Tests.{eqb-true, eq-eqb, ne-eqb, le-leb}
+use borrow.Author.Tests.{eqb-true, eq-eqb, ne-eqb, le-leb, lt-leb}
 use lib.Dec.{eqb, leb}
 use lib.ListN.{length}
 use Rattle.lists.proofs.Tests.{pass}
@@ -47,13 +47,18 @@ module _ (l : Layout) (ok : validLayout l ≡ true) (n : ℕ) (whole : wholeGrou
   can-pack size output e f h =
       ap₂ _&&_ (ap₂ _&&_ (eq-eqb (size % 3) 0 (omega arith)) (le-leb (size / 3) mostPoints (omega arith))) (eq-eqb output (bytesFor l (size / 3)) (f ∙ ap (bytesFor l) (sym (third size e))))
 
--- an odd count of whole points of groups, and what is not of whole points
+-- an odd count of whole points of groups, what is not of whole points, and too many
 pub odd-points : (l : Layout) → validGroups l ≡ true → (g size : ℕ) → size ≡ 3 * (2 * g + 1) → oddPoints l size ≡ true
 odd-points l ok g size e = group-odd l ok size ∙ ap₂ (λ (t u : Bool). t && not u) (eq-eqb (size % 3) 0 (omega arith)) (ne-eqb (size / 3 % 2) 0 (λ q. omega arith))
 
 pub part-points : (l : Layout) (size bytes : ℕ) → eqb (size % 3) 0 ≡ false → (oddPoints l size ≡ false) × (packable l size bytes ≡ false)
 part-points l size bytes e =
     (ap (λ (t : Bool). t && not (wholeGroups l (size / 3))) e, ap (λ (t : Bool). t && leb (size / 3) mostPoints && eqb bytes (bytesFor l (size / 3))) e)
+
+pub too-many : (l : Layout) (n size bytes : ℕ) → mostPoints < n → size ≡ 3 * n → packable l size bytes ≡ false
+too-many l n size bytes h e =
+    let part = eqb (size % 3) 0 in
+    ap (λ (t : Bool). t && eqb bytes (bytesFor l (size / 3))) (ap (λ (t : Bool). part && t) (lt-leb (size / 3) 4096 (omega arith)) ∙ and-false part)
 
 pub packing-accepted : (l : Layout) (n : ℕ) (cs : List ℕ) (bytes : ℕ) → CodeLine l n cs → bytes ≡ bytesFor l n → n ≤ mostPoints → packAnswer l cs bytes ≡ Points n
 unfolding packAnswer

@@ -16,7 +16,7 @@ use Rattle.lists.proofs.Lists.{length-tabulate, getD-tabulate}
 use Rattle.lists.proofs.Tests.{pass, stop}
 use Rattle.layout.specs.declared.Layout.{Layout}
 use Rattle.layout.specs.Layout.{topOf, wholeGroups, validGroups, validLayout}
-use Rattle.layout.proofs.Facts.{one-of-two, not-grouped, groups-say, groups-valid}
+use Rattle.layout.proofs.Facts.{one-of-two, not-grouped, groups-say, groups-valid, odd-of-groups}
 use Rattle.line.specs.declared.LineAnswer.the-variants.{Points}
 use Rattle.line.specs.Group.{groupCode, groupByte}
 use Rattle.line.specs.Line.{pointCode, codeAt, pointsIn, codesOf, pointByte, byteAt, bytesFor, packedOf, shared, codesWithin, PackedLine, CodeLine}
@@ -24,13 +24,13 @@ use Rattle.line.specs.Answer.{unpackAnswer, packAnswer}
 use Rattle.line.proofs.Own.{own-bytes, own-whole, own-codes, own-packed, own-shared}
 use Rattle.line.proofs.Grouped.{group-bytes, group-whole, group-codes, group-packed, group-shared, group-unpackable, group-points}
 use Rattle.line_values.proofs.Encodes.{length-quantized, quantized-within}
-use Rattle.scanline_laws.specs.Claims.{PacksWhatWasUnpacked, PacksBackWhole, UnpacksWhatWasPacked, SharedWhereTheSame, PacksWithoutLooking, ReadsGroups, WritesGroups, CountsTwoAGroup, RefusesOddCounts, RefusesTooMany, RefusesPartsOfGroups, RefusesPartsOfPoints, UnpacksToCodes, PacksToBytes, PacksUnusedBitsAsZero, AcceptsWhatWasUnpacked, AcceptsWhatWasPacked, EncodesToCodes, CountsEmptyLines}
+use Rattle.scanline_laws.specs.Claims.{PacksWhatWasUnpacked, PacksBackWhole, UnpacksWhatWasPacked, SharedWhereTheSame, PacksWithoutLooking, ReadsGroups, WritesGroups, CountsTwoAGroup, OddInNumbers, RefusesOddCounts, RefusesTooMany, RefusesTooManyPacked, RefusesPartsOfGroups, RefusesPartsOfPoints, UnpacksToCodes, PacksToBytes, PacksUnusedBitsAsZero, AcceptsWhatWasUnpacked, AcceptsWhatWasPacked, EncodesToCodes, CountsEmptyLines}
 use Rattle.scanline_laws.proofs.Points.{packed-points, code-points}
 use Rattle.scanline_laws.proofs.Groups.{code-at, byte-at, packs-back, codes-small as group-codes-small, packed-at, unpacks-shared, bytes-small, groups-cleared}
 use Rattle.scanline_laws.proofs.Cleared.{codes-small, pack-unpack}
 use Rattle.scanline_laws.proofs.Back.{packed-bytes, unpack-pack}
 use Rattle.scanline_laws.proofs.Whole.{cleared-same}
-use Rattle.scanline_laws.proofs.Accepted.{points-in, even-points, odd-points, part-points, packing-accepted, unpacking-accepted}
+use Rattle.scanline_laws.proofs.Accepted.{points-in, even-points, odd-points, part-points, too-many, packing-accepted, unpacking-accepted}
 use Rattle.scanline_laws.proofs.Looked.{shared-same, every-shared, packed-alike, answered-alike, packs-shared}
 
 -- ---- of groups: how many there are
@@ -107,17 +107,23 @@ counts-two-a-group l g ok h =
     let fits = ap₂ _&&_ (ap₂ _&&_ (eq-eqb (4 * g % 4) 0 (omega arith)) (le-leb (2 * (4 * g / 4)) 4096 (omega arith))) (eq-eqb (6 * g) (3 * (2 * (4 * g / 4))) (omega arith)) in
     pass _ (ap not (groups-valid l ok)) (pass _ (ap not (group-unpackable l ok (4 * g) (6 * g) ∙ fits)) (ap Points (group-points l ok (4 * g) ∙ omega arith)))
 
+pub odd-in-numbers : OddInNumbers
+odd-in-numbers l size = ap (λ (t : Bool). eqb (size % 3) 0 && t) (odd-of-groups l (size / 3))
+
 pub refuses-odd-counts : RefusesOddCounts
 unfolding packAnswer
 refuses-odd-counts l g bytes cs ok e = pass _ (ap not (groups-valid l ok)) (stop _ (odd-points l ok g (length cs) e))
 
 pub refuses-too-many : RefusesTooMany
 unfolding packAnswer
-refuses-too-many l n bytes cs ok w h e =
-    let many : leb (length cs / 3) 4096 ≡ false = lt-leb (length cs / 3) 4096 (omega arith) in
-    pass _ (ap not ok)
-    (pass _ (even-points l ok n w (length cs) e)
-    (stop _ (ap (λ (t : Bool). not (t && eqb bytes (bytesFor l (length cs / 3)))) (ap (λ (t : Bool). eqb (length cs % 3) 0 && t) many ∙ and-false (eqb (length cs % 3) 0)))))
+refuses-too-many l n bytes cs ok w h e = pass _ (ap not ok) (pass _ (even-points l ok n w (length cs) e) (stop _ (ap not (too-many l n (length cs) bytes h e))))
+
+pub refuses-too-many-packed : RefusesTooManyPacked
+unfolding unpackAnswer
+refuses-too-many-packed l bytes codes ok h =
+    let part = eqb (bytes % l .bytes) 0 in
+    let many : leb (pointsIn l bytes) 4096 ≡ false = lt-leb (pointsIn l bytes) 4096 h in
+    pass _ (ap not ok) (stop _ (ap (λ (t : Bool). not (t && eqb codes (3 * pointsIn l bytes))) (ap (λ (t : Bool). part && t) many ∙ and-false part)))
 
 pub refuses-parts-of-groups : RefusesPartsOfGroups
 unfolding unpackAnswer

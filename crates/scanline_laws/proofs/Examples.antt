@@ -26,7 +26,7 @@ deck = record { model = 2; primaries = 2; range = 1; depth = 8; bytes = 4; offse
 abbrev white : List ℕ
 white = 64 ∷ 176 ∷ 14 ∷ 252 ∷ []
 
--- unpacked, packed again without the two bits; then a byte, a code and a layout too many or too high; then two groups, and one whose second point's colour is not looked at, while its Y' is; an odd count, and a part of a point; up to 4,096 points; 4,097 are odd, 4,098 are not; offsets that are not zero
+-- unpacked, packed again without the two bits; then a byte, a code and a layout too many or too high; then two groups, and one whose second point's colour is not looked at, while its Y' is; an odd count, also before all else that is wrong, an empty line, and a part of a point; up to 4,096 points; 4,097 are odd, 4,098 are not; offsets that are not zero
 examples : (codesOf ten white ≡ 940 ∷ 64 ∷ 960 ∷ [])
     × (packedOf ten (940 ∷ 64 ∷ 960 ∷ []) ≡ 64 ∷ 176 ∷ 14 ∷ 60 ∷ [])
     × (cleared ten white ≡ 64 ∷ 176 ∷ 14 ∷ 60 ∷ [])
@@ -43,6 +43,8 @@ examples : (codesOf ten white ≡ 940 ∷ 64 ∷ 960 ∷ [])
     × (packAnswer deck (16 ∷ 90 ∷ 240 ∷ 235 ∷ 999 ∷ 0 ∷ []) 4 ≡ Points 2)
     × (packAnswer deck (16 ∷ 90 ∷ 240 ∷ 256 ∷ 0 ∷ 0 ∷ []) 4 ≡ Refused 14)
     × (packAnswer deck (16 ∷ 90 ∷ 240 ∷ []) 4 ≡ Refused 16)
+    × (packAnswer deck (256 ∷ 90 ∷ 240 ∷ []) 5 ≡ Refused 16)
+    × (packAnswer deck [] 0 ≡ Points 0)
     × (packAnswer deck (16 ∷ 90 ∷ []) 4 ≡ Refused 13)
     × (unpackAnswer deck 8 12 ≡ Points 4)
     × (unpackAnswer deck 6 9 ≡ Refused 13)
@@ -53,4 +55,4 @@ examples : (codesOf ten white ≡ 940 ∷ 64 ∷ 960 ∷ [])
     × (unpackAnswer (record { model = 2; primaries = 2; range = 1; depth = 8; bytes = 4; offset0 = 0; offset1 = 8; offset2 = 16; sampling = 1 }) 8 12 ≡ Refused 9)
 unfolding tabulate every little validPoints validGroups validLayout pointOf groupCode groupByte pointCode codeAt codesOf joined pointByte byteAt packedOf shared unpackAnswer packAnswer fieldBits usedBits cleared
 examples =
-    (refl, refl, refl, refl, refl, refl, refl, refl, refl, refl, refl, refl, refl, refl, refl, refl, refl, refl, refl, refl, refl, refl, refl, refl)
+    (refl, refl, refl, refl, refl, refl, refl, refl, refl, refl, refl, refl, refl, refl, refl, refl, refl, refl, refl, refl, refl, refl, refl, refl, refl, refl)

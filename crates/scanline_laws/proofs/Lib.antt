@@ -7,5 +7,4 @@ mod Whole
 pub mod Accepted
 pub mod Looked
 mod Examples
-mod GroupExamples
 pub mod Claims

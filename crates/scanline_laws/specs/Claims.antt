@@ -1,6 +1,6 @@
 -- What is claimed of lines, of the definitions that the contracts of `unpack_line`, `pack_line` and `encode_line` cite. proofs/Claims.antt proves each. Assumes nothing.
-use Prim.Native.Nat.{ℕ, _+_, _-_, _*_, _%_, _≤_, _<_}
-use mathlib.Core.Bool.{Bool, true, false, _||_}
+use Prim.Native.Nat.{ℕ, _+_, _-_, _*_, _/_, _%_, _≤_, _<_}
+use mathlib.Core.Bool.{Bool, true, false, _&&_, _||_}
 use mathlib.Core.Path.{_≡_}
 use mathlib.Core.List.{List, []}
 use lib.Dec.{eqb}
@@ -10,8 +10,8 @@ use Rattle.layout.specs.declared.Layout.{Layout}
 use Rattle.layout.specs.Layout.{grouped, wholeGroups, validGroups, validLayout}
 use Rattle.refusal.specs.Refusal.{wrongLineOrOutput, oddCount}
 use Rattle.line.specs.declared.LineAnswer.the-variants.{Points, Refused}
-use Rattle.line.specs.Line.{codeAt, codesOf, byteAt, packedOf, looked, shared, PackedLine, CodeLine}
-use Rattle.line.specs.Answer.{mostPoints, unpackAnswer, packAnswer}
+use Rattle.line.specs.Line.{codeAt, pointsIn, codesOf, byteAt, packedOf, looked, shared, PackedLine, CodeLine}
+use Rattle.line.specs.Answer.{mostPoints, oddPoints, unpackAnswer, packAnswer}
 use Rattle.line_values.specs.Encode.{quantizedOf}
 use Rattle.scanline_laws.specs.Cleared.{cleared}
 
@@ -60,13 +60,20 @@ WritesGroups =
 abbrev pub CountsTwoAGroup : Type 0
 CountsTwoAGroup = (l : Layout) (g : ℕ) → validGroups l ≡ true → g ≤ 2048 → unpackAnswer l (4 * g) (6 * g) ≡ Points (2 * g)
 
--- of groups an odd count of whole points is refused by 16, also one of more than 4,096 (4,097)
+-- row 16 of lines to pack or encode: an odd count of whole points, of groups
+abbrev pub OddInNumbers : Type 0
+OddInNumbers = (l : Layout) (size : ℕ) → oddPoints l size ≡ eqb (size % 3) 0 && (eqb (l .sampling) 1 && eqb (size / 3 % 2) 1)
+
+-- which is refused so, also one of more than 4,096 (4,097)
 abbrev pub RefusesOddCounts : Type 0
 RefusesOddCounts = (l : Layout) (g bytes : ℕ) (cs : List ℕ) → validGroups l ≡ true → length cs ≡ 3 * (2 * g + 1) → packAnswer l cs bytes ≡ Refused oddCount
 
--- and one of more than 4,096 points that is not odd (4,098 of groups) by 13; so are packed bytes that are not of whole groups, unpacked or decoded
+-- and one of more than 4,096 points that is not odd (4,098 of groups) by 13; so are packed bytes of more, or that are not of whole groups, unpacked or decoded
 abbrev pub RefusesTooMany : Type 0
 RefusesTooMany = (l : Layout) (n bytes : ℕ) (cs : List ℕ) → validLayout l ≡ true → wholeGroups l n ≡ true → mostPoints < n → length cs ≡ 3 * n → packAnswer l cs bytes ≡ Refused wrongLineOrOutput
+
+abbrev pub RefusesTooManyPacked : Type 0
+RefusesTooManyPacked = (l : Layout) (bytes codes : ℕ) → validLayout l ≡ true → mostPoints < pointsIn l bytes → unpackAnswer l bytes codes ≡ Refused wrongLineOrOutput
 
 abbrev pub RefusesPartsOfGroups : Type 0
 RefusesPartsOfGroups = (l : Layout) (bytes codes : ℕ) → validGroups l ≡ true → eqb (bytes % 4) 0 ≡ false → unpackAnswer l bytes codes ≡ Refused wrongLineOrOutput

@@ -21,15 +21,15 @@ own c = sym (c .before .grouped .ensures) ∙ c .if1 .left
 grouped-requires : tie.Need-grouped-requires
 grouped-requires c κs = search needs
 
-returns : tie.Need-returns
-unfolding encodePointAnswer
-returns c = refuses-clamped _ _ (stop _ (sym (c .before .grouped .ensures) ∙ c .if1 .taken))
-
 slice-aggregate-encode-points : tie.Need-slice-aggregate-encode-points
 slice-aggregate-encode-points c = refl
 
 encode-points-requires : tie.Need-encode-points-requires
 encode-points-requires c κs = own (c .before .before)
+
+returns : tie.Need-returns
+unfolding encodePointAnswer
+returns c = refuses-clamped _ _ (stop _ (sym (c .before .grouped .ensures) ∙ c .if1 .taken))
 
 same-length : tie.Need-same-length
 same-length c = search needs
@@ -49,8 +49,8 @@ encode-point-spec =
     tie.close
     (tie.spec
     grouped-requires
-    returns
     slice-aggregate-encode-points
     encode-points-requires
+    returns
     same-length
     returns-2)

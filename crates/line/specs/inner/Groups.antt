@@ -1,11 +1,9 @@
--- Lines of groups. Only the contracts of functions that take groups alone cite it, those of public functions no more of it than `ofGroups`: proofs/Grouped.antt shows that the codes and packed bytes of a layout of groups are these. Assumes nothing.
+-- Lines of groups. Only contracts of private functions cite it, and a reader need not believe it: proofs/Grouped.antt shows that the codes and packed bytes of a layout of groups are these. Assumes nothing.
 use mathlib.Core.Bool.{cond}
 use mathlib.Core.List.{List}
 use Prim.Native.Nat.{ℕ, _-_, _*_, _/_}
 use lib.ListN.{length, getD}
 use Rattle.lists.specs.Lists.{tabulate}
-use Rattle.layout.specs.declared.Layout.{Layout}
-use Rattle.layout.specs.Layout.{grouped}
 use Rattle.line.specs.Group.{groupCode, groupByte, secondColor}
 
 -- the codes of a packed line of groups
@@ -19,7 +17,3 @@ groupsPacked cs = tabulate (4 * (length cs / 6)) (groupByte cs)
 -- a line with each second point's colour replaced by the first's
 abbrev pub groupShared : {A : Type 0} → A → List A → List A
 groupShared d xs = tabulate (length xs) (λ k. getD xs (cond (secondColor k) (k - 3) k) d)
-
--- an answer by a layout of groups; any other layout has another
-abbrev pub ofGroups : {A : Type 0} → Layout → A → A → A
-ofGroups l answer other = cond (grouped l) answer other
