@@ -41,6 +41,36 @@ impl Asked {
 /// Another answer for the right one.
 type Answer = fn(i64, &Asked) -> i64;
 
+// Those that every function on lines of groups may give.
+
+fn count_of_groups(answer: i64, _: &Asked) -> i64 {
+    match answer {
+        0.. => answer / 2,
+        _ => answer,
+    }
+}
+
+fn count_of_bytes(answer: i64, asked: &Asked) -> i64 {
+    match answer {
+        0.. => asked.bytes as i64,
+        _ => answer,
+    }
+}
+
+fn at_most_2048(answer: i64, _: &Asked) -> i64 {
+    match answer {
+        2049.. => -13,
+        _ => answer,
+    }
+}
+
+fn groups_refused(answer: i64, _: &Asked) -> i64 {
+    match answer {
+        0.. => -9,
+        _ => answer,
+    }
+}
+
 /// The place of a bit of a code of a group, if its codes lie in these bytes.
 fn placed(layout: Layout, code: usize, bit: usize, bytes: [usize; 6]) -> usize {
     match is_grouped(layout) {

@@ -11,6 +11,7 @@ use super::super::decode::decodes;
 use super::super::unpack::unpacks;
 use super::super::Wrong;
 use super::{answered, as_points, changed, decoded, placed, Asked};
+use super::{at_most_2048, count_of_bytes, count_of_groups, groups_refused};
 
 /// The bytes of the codes Y', Cb, Cr, Y', Cb, Cr.
 macro_rules! misplaced {
@@ -80,30 +81,18 @@ macro_rules! answering {
 }
 
 answering! {
-    "the count of groups for points": |answer, _| match answer {
-        0.. => answer / 2,
-        _ => answer,
-    },
-    "the count of bytes of groups": |answer, asked| match answer {
-        0.. => asked.bytes as i64,
-        _ => answer,
-    },
+    "the count of groups for points": count_of_groups,
+    "the count of bytes of groups": count_of_bytes,
     "the count of codes of groups": |answer, asked| match answer {
         0.. => asked.elements as i64,
         _ => answer,
     },
-    "2,048 points at most in groups": |answer, _| match answer {
-        2049.. => -13,
-        _ => answer,
-    },
+    "2,048 points at most in groups": at_most_2048,
     "no groups refused": |answer, _| match answer {
         0 => -13,
         _ => answer,
     },
-    "groups refused": |answer, _| match answer {
-        0.. => -9,
-        _ => answer,
-    },
+    "groups refused": groups_refused,
     "16 for bytes of no whole groups": |answer, asked| match answer {
         -13 if asked.bytes % 4 != 0 => -16,
         _ => answer,

@@ -13,6 +13,7 @@ use super::super::encode::encodes;
 use super::super::pack::packs;
 use super::super::Wrong;
 use super::{answered, as_points, Asked};
+use super::{at_most_2048, count_of_bytes, count_of_groups, groups_refused};
 
 macro_rules! answering {
     ($($mistake:literal: $answer:expr,)*) => {
@@ -31,26 +32,14 @@ macro_rules! answering {
 
 answering! {
     // Counts.
-    "the count of groups for points": |answer, _| match answer {
-        0.. => answer / 2,
-        _ => answer,
-    },
-    "the count of bytes of groups": |answer, asked| match answer {
-        0.. => asked.bytes as i64,
-        _ => answer,
-    },
-    "2,048 points at most in groups": |answer, _| match answer {
-        2049.. => -13,
-        _ => answer,
-    },
+    "the count of groups for points": count_of_groups,
+    "the count of bytes of groups": count_of_bytes,
+    "2,048 points at most in groups": at_most_2048,
     "no groups refused": |answer, _| match answer {
         0 => -16,
         _ => answer,
     },
-    "groups refused": |answer, _| match answer {
-        0.. => -9,
-        _ => answer,
-    },
+    "groups refused": groups_refused,
     // Another number for 16.
     "an odd count given 13": |answer, _| match answer {
         -16 => -13,
