@@ -5,7 +5,7 @@
 # make examples              runs the examples and compares what they print
 # make check                 the gate
 PREFIX ?= /usr/local
-VERSION = 0.7.0
+VERSION = 0.8.0
 
 library = target/staticlib/libimurraqi.a
 program = target/bin/stack_list
@@ -14,7 +14,7 @@ binding = share/imurraqi/rust
 sources := crates.txt $(shell find crates -name '*.rt' -o -name '*.antt')
 
 # The C interface by subject.
-subjects = c_values c_descriptors c_fields c_lines c_colors c_cards c_history
+subjects = c_values c_descriptors c_fields c_lines c_colors c_cards c_history c_pictures
 
 # In a shell: PREFIX with its whole path, and the directory that is written to.
 places = set -e; prefix=$$(realpath -ms -- '$(PREFIX)'); to='$(DESTDIR)'$$prefix

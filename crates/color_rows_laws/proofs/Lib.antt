@@ -3,3 +3,4 @@ mod Quotients
 mod Lowest
 mod Equations
 pub mod Claims
+pub mod Lines

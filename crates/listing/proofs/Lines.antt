@@ -6,7 +6,8 @@ use borrow.Author.Tests.{eq-eqb, ne-eqb}
 use lib.ListN.{length, length-append}
 use Rattle.lists.proofs.Tests.{pass, stop}
 use Rattle.text_writer.specs.Decimal.{decimal}
-use Rattle.listing.specs.Words.{space, by, newline, closedWord, communityWord, openWord, accessWord}
+use Rattle.text_writer.specs.Words.{space, newline}
+use Rattle.listing.specs.Words.{by, closedWord, communityWord, openWord, accessWord}
 use Rattle.listing.specs.List.{itemText, sizeText, numberLine}
 use Rattle.text_writer.specs.Put.{Put}
 use Rattle.text_writer.proofs.Puts.{put-join}

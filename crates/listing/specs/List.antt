@@ -10,7 +10,8 @@ use Rattle.card_reader.specs.declared.CardReading.the-variants.{Shown, Refused}
 use Rattle.card_reader.specs.Reading.{readCard}
 use Rattle.stack.specs.Stack.{cardsIn, wholeStack, cardAt}
 use Rattle.text_writer.specs.Decimal.{decimal}
-use Rattle.listing.specs.Words.{space, by, newline, cardsWord, stackRefused, cardRefused, accessWord}
+use Rattle.text_writer.specs.Words.{space, newline}
+use Rattle.listing.specs.Words.{by, cardsWord, stackRefused, cardRefused, accessWord}
 
 -- `ITEM WORD `, with a space behind each
 unfoldable pub itemText : ℕ → ℕ → List ℕ

@@ -42,7 +42,8 @@ pub const UNWRITABLE: u8 = 11;
 // A float is not a number.
 pub const NOT_A_NUMBER: u8 = 12;
 
-// A line is not of whole points or groups or of over 4,096 points, or an output is not exactly as long as needed.
+// A line is not of whole points or groups or of over 4,096 points, or the bytes of a field or of a picture, or an output, are not
+// exactly as many as needed.
 pub const WRONG_LINE_OR_OUTPUT: u8 = 13;
 
 // A code is above 2^n - 1.
@@ -53,3 +54,9 @@ pub const NO_ITEM: u8 = 15;
 
 // An odd width, or an odd count of whole points to encode or pack, where two points make a group.
 pub const ODD_COUNT: u8 = 16;
+
+// A card is not open, so that no picture file is made of it.
+pub const NOT_OPEN: u8 = 17;
+
+// A picture file does not begin with a header of our form, or has a code above the largest that its header tells.
+pub const WRONG_PICTURE: u8 = 18;

@@ -141,7 +141,7 @@ pub length-codes : (l : Layout) (n : ℕ) (s : List ℕ) → PackedLine l n s �
 unfolding codesOf
 length-codes l n s p = length-tabulate (3 * pointsIn l (length s)) (codeAt l s) ∙ ap (λ (m : ℕ). 3 * m) (points-in l (p .valid) n (p .whole) (length s) (p .points))
 
-codes-within : (l : Layout) (n : ℕ) (s : List ℕ) → PackedLine l n s → codesWithin (l .depth) (codesOf l s) ≡ true
+pub codes-within : (l : Layout) (n : ℕ) (s : List ℕ) → PackedLine l n s → codesWithin (l .depth) (codesOf l s) ≡ true
 codes-within l n s p = elim (one-of-two l (p .valid)) [
   | inl ok ↦ ap (codesWithin (l .depth)) (own-codes l (not-grouped l ok) s) ∙ codes-small l n s (packed-points ok p)
   | inr ok ↦

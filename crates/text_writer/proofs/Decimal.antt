@@ -63,6 +63,13 @@ pub length-decimal : (j n : ℕ) → n < 10 ^ suc j → length (decimal n) ≤ s
 unfolding decimal
 length-decimal j n h = length-digits 20 j n h
 
+-- one digit, or one more than a tenth has
+pub length-one : (n : ℕ) → n < 10 → length (decimal n) ≡ 1
+length-one n h = ap length (sym (decimal-one n h))
+
+pub length-more : (n : ℕ) → 10 ≤ n → n < 10 ^ 20 → length (decimal n) ≡ length (decimal (n / 10)) + 1
+length-more n l h = ap length (sym (decimal-more n l h)) ∙ length-append (decimal (n / 10)) (digit (n % 10) ∷ [])
+
 -- ---- stored digit by digit
 
 pub number-one : (n : ℕ) {at next : ℕ} {xs ys : List ℕ} → n < 10 → Put (digit (n % 10) ∷ []) at xs ys next → Put (decimal n) at xs ys next

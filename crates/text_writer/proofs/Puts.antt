@@ -1,11 +1,11 @@
 -- Pieces stored one after the other. Assumes nothing.
-use mathlib.Core.Path.{_≡_, refl, sym, ap, ap₂, _∙_, subst}
+use mathlib.Core.Path.{_≡_, refl, sym, ap, _∙_, subst}
 use mathlib.Core.List.{List, [], _∷_, _++_}
 use Prim.Native.Nat.{ℕ, _+_, _-_, _≤_, _<_, suc, min}
 use native.Mathlib.Omega.{arith, min-cases}
 use borrow.Rule.Slice.PartMut.{midOf, putMid}
 use lib.ListN.{length, take, drop, length-append, take-append-drop, drop-of-length-le}
-use lib.Seq.{sets, sets-eq, set-out, length-sets, length-take-le}
+use lib.Seq.{sets, sets-eq, set-out, length-sets, length-take-le, take-at}
 use Rattle.lists.proofs.Copies.{sets-join, copied}
 use Rattle.text_writer.specs.Put.{Put}
 
@@ -85,3 +85,10 @@ front {p} {xs} {ys} {next} h a =
     let e : next ≡ length p = omega (arith, a .ends) in
     let f : 0 + length p ≡ next = omega arith in
     (e, a .holds ∙ sets-eq p xs 0 (omega arith) ∙ ap (λ (k : ℕ). p ++ drop k xs) f)
+
+-- so that the text is what is in front of its end
+pub stored : {p xs ys : List ℕ} {next : ℕ} → length p ≤ length xs → Put p 0 xs ys next → take next ys ≡ p
+stored {p} {xs} {ys} {next} h a = let f = front h a in ap (take next) (f .1) ∙ take-at p (drop next xs) next (sym (f .0))
+
+pub stored-length : {p xs ys : List ℕ} {next : ℕ} → length p ≤ length xs → Put p 0 xs ys next → next ≡ length (take next ys)
+stored-length h a = front h a .0 ∙ sym (ap length (stored h a))

@@ -1,4 +1,4 @@
--- Document 01, "The stack list": a number as decimal digits, in ASCII. Assumes nothing.
+-- Document 01, "The stack list", and request A7: a number as decimal digits, in ASCII. Assumes nothing.
 use Prim.Native.Nat.{ℕ, zero, suc, _+_, _/_, _%_}
 use mathlib.Core.Bool.{cond}
 use mathlib.Core.List.{List, [], _∷_, _++_}

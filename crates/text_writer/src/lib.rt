@@ -1,6 +1,7 @@
 // Text stored in an output: pieces one after the other, and numbers as decimal digits.
 ghost use mathlib.Core.Path.{_≡_};
 ghost use mathlib.Core.List.{[], _∷_};
+ghost use lib.ListN.{length};
 ghost use Prim.Native.Nat.{_+_, _%_, min};
 ghost use Rattle.text_writer.specs.Decimal.{digit, decimal};
 ghost use Rattle.text_writer.specs.Put.{Put};
@@ -43,6 +44,16 @@ fn put_digit(n: u64, at: usize, out: &mut [u8]) -> usize
     ensures { λ r. ⌜ Put (digit (n % 10) ∷ []) at (now (out .entry)) (now (out .exit)) r ⌝ }
 {
     put_byte(b'0' + (n % 10) as u8, at, out)
+}
+
+// How many digits a number has. It calls itself for all but the last digit, at most 20 deep.
+pub fn count(n: u64) -> usize
+    ensures answer { λ r. ⌜ r ≡ length (decimal n) ⌝ }
+{
+    if n < 10 {
+        return 1;
+    }
+    count(n / 10) + 1
 }
 
 // Stores all digits of a number, as a piece. It calls itself for all but the last digit, at most 20 deep.

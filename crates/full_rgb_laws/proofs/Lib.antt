@@ -1,0 +1,2 @@
+mod Narrow
+pub mod Claims

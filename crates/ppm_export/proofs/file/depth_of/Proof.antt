@@ -1,0 +1,24 @@
+-- `ppm_export::file::depth_of` meets its contract. Assumes nothing.
+use borrow.Author.Needs.{needs}
+use mathlib.Core.Path.{sym, _∙_}
+use Rattle.layout.proofs.Known.{depth-told, depth-unknown, depth-else}
+use Rattle.ppm_export.proofs.file.depth_of.Statement.{statement}
+use Rattle.ppm_export.proofs.file.depth_of.Tie as tie
+
+of-requires : tie.Need-of-requires
+of-requires c κs = search needs
+
+enum-known-depth : tie.Need-enum-known-depth
+enum-known-depth c = search needs
+
+enum-told : tie.Need-enum-told
+enum-told c = search needs
+
+returns : tie.Need-returns
+returns c = depth-told (c .before .before .before .before .args .number) (sym (c .before .before .before .of .ensures) ∙ c .before .depth .given .1) .1
+
+returns-2 : tie.Need-returns-2
+returns-2 c = sym (depth-else (c .before .before .before .args .number) (depth-unknown (c .before .before .before .args .number) (sym (c .before .before .of .ensures) ∙ c .enum-told .given .1)))
+
+pub depth-of-spec : {M : Type 1} → statement M
+depth-of-spec = tie.close (tie.spec of-requires enum-known-depth enum-told returns returns-2)

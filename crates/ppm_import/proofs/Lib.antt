@@ -1,0 +1,4 @@
+pub mod Layouts
+pub mod Headers
+pub mod Answers
+mod Block

@@ -1,0 +1,5 @@
+mod Exported
+mod Imported
+mod Returns
+pub mod Claims
+mod Examples

@@ -1,0 +1,1 @@
+// What exporting and importing pictures amounts to: statements (specs/) and their proofs (proofs/). No code.

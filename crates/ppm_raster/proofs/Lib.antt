@@ -1,0 +1,3 @@
+pub mod Rasters
+pub mod Parts
+pub mod Claims
