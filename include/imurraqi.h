@@ -1,7 +1,7 @@
 /* The C interface of libimurraqi.a.
  *
  * Every function answers a number of 0 or more, or minus the number of its
- * refusal (-1 .. -16, see below). On a refusal nothing behind any pointer
+ * refusal (-1 .. -18, see below). On a refusal nothing behind any pointer
  * changes. docs/PROMISES.md says what is proved of each function.
  *
  * An array of any length is a pointer and then its length in elements. No
@@ -21,8 +21,8 @@
  *
  * A group is four bytes, Cb, Y', Cr, Y', of 8 bits each: Cb and Cr are those of
  * both points, the first Y' is the first point's. Its layout has model 2, depth 8,
- * bytes 4 (those of the group) and offsets 0. Lines, cards and their histories may
- * be of groups. Descriptors, single points and single fields may not: 9.
+ * bytes 4 (those of the group) and offsets 0. Lines, cards and their histories, and
+ * pictures may be of groups. Descriptors, single points and single fields may not: 9.
  *
  * Cards have editions, 1 to 4. Edition 1 has narrow and full range at 8 and 10
  * bits, and no access: all is closed. Edition 2 also has 12 bits and access,
@@ -42,10 +42,14 @@
  *       edition asked                  11  the edition lacks the layout or access
  *   12  not-a-number
  *   13  a line not of whole points or groups or of over 4,096 points, not exactly
- *       the bytes of a field, or an output not exactly as long as needed
+ *       the bytes of a field or of a picture, or an output not exactly as long as
+ *       needed
  *   14  a code too high for its depth  15  no such item
  *   16  of groups: an odd width, or an odd count of whole points to encode or
- *       pack */
+ *       pack
+ *   17  the card is not open, so that no picture is made of it
+ *   18  a picture file without a header of the form that is accepted, or with a
+ *       code above the largest that its header tells */
 #ifndef IMURRAQI_H
 #define IMURRAQI_H
 
@@ -206,6 +210,46 @@ int64_t imurraqi_replay(uint8_t first, const uint8_t layout[9], uint16_t width,
  * are refused are passed over. Refused: 1, 7, 15. */
 int64_t imurraqi_stack_find(const uint8_t *stack, size_t len, uint8_t edition,
                             uint64_t item);
+
+/* Writes the picture of an open card as a file that others read: binary PPM
+ * (Netpbm's P6). packed: all lines of the picture, one after the other, points or
+ * groups as the card's layout says. Every point becomes full-range R', G', B' of its
+ * depth: full-range codes stay as they are, narrow ones are converted from their
+ * exact fractions and rounded once, and Y', Cb, Cr as imurraqi_ycbcr_to_rgb does
+ * by the card's primaries. The file begins with the text
+ * "P6\nWIDTH HEIGHT\nLARGEST\n", in which LARGEST is 255, 1023 or 4095, the
+ * largest code of the depth, and no decimal number begins with a zero. R', G', B' of
+ * each point follow, big-endian: a byte each at 8 bits, else two. Answers the count
+ * of points, up to 16,777,216. Refused: as imurraqi_card_read, then 9 for legacy full
+ * range, then 17 where the edition does not show the card as open (edition 1 shows
+ * none so), then 13 where packed is not exactly the picture's bytes or out not
+ * exactly as long as the file. */
+int64_t imurraqi_ppm_export(const uint8_t *card, size_t card_len,
+                            uint8_t edition, const uint8_t *packed,
+                            size_t packed_len, uint8_t *out, size_t out_len);
+
+/* How many bytes the file has that imurraqi_ppm_export writes of a card.
+ * Refused: as imurraqi_card_read, then 9 for legacy full range, then 17. */
+int64_t imurraqi_ppm_export_len(const uint8_t *card, size_t card_len,
+                                uint8_t edition);
+
+/* Reads a picture file and makes a card and packed points of it. The file has
+ * exactly the form that imurraqi_ppm_export writes, with sides of 1 to 4,096 and
+ * nothing after the points; other headers that PPM allows are not taken. A file
+ * cannot tell who may see it, so the card is closed. It is written at edition 2, with
+ * the item and primaries given, as full-range R', G', B' of 8, 10 or 12 bits in 3, 4
+ * or 5 bytes a point, side by side from bit 0. Answers the count of points. Refused:
+ * 9 for item 0 or unknown primaries; 18 where the file does not begin with such a
+ * header, whole; 13 where what follows it is not exactly the points' bytes, card is
+ * not 32 bytes, or packed is not exactly as long as needed; 18 for a code above the
+ * largest. */
+int64_t imurraqi_ppm_import(const uint8_t *ppm, size_t len, uint64_t item,
+                            uint8_t primaries, uint8_t *card, size_t card_len,
+                            uint8_t *packed, size_t packed_len);
+
+/* How many bytes of packed points imurraqi_ppm_import makes of a picture file. Only
+ * the header is looked at: what follows it may be anything, or nothing. Refused: 18. */
+int64_t imurraqi_ppm_import_len(const uint8_t *ppm, size_t len);
 
 #ifdef __cplusplus
 }

@@ -1,11 +1,13 @@
 //! Makes the sample stack and the stacks on which the gate runs the programs, each with
-//! the list that the reference gives for it.
+//! the list that the reference gives for it; and the sample picture, with the file that the
+//! reference exports of it.
 
 use std::fs;
 
 use reference::card::{self, Facts, CLOSED, COMMUNITY, OPEN, SIZE};
 use reference::layout::Numbers;
 use reference::stack::{self, MOST_CARDS};
+use reference::{color, lines, pictures};
 
 type Card = [u8; SIZE];
 
@@ -57,6 +59,14 @@ fn main() {
     store("samples/archive.stack", &archive);
     store("samples/archive.list", stack::list(&archive));
     store("crates/stack_find_cases/stdin", &archive);
+
+    let card = written(2, CHART, CHART_WIDTH, CHART_HEIGHT, 600_001, OPEN);
+    let packed = chart();
+    store("samples/chart.card", card);
+    store("samples/chart.packed", &packed);
+    let mut file = vec![0; pictures::export_len(&card, 2).expect("an open card")];
+    pictures::export(&card, 2, &packed, &mut file).expect("all of the chart's points");
+    store("target/reference/chart.ppm", file);
 }
 
 fn store(file: &str, bytes: impl AsRef<[u8]>) {
@@ -122,6 +132,59 @@ fn archive() -> Vec<Card> {
         written(3, EARLY_8, 720, 576, 117, COMMUNITY),
         written(4, GROUPS, 720, 576, 118, COMMUNITY),
     ]
+}
+
+/// Y'CbCr, BT.709, narrow, 10 bits in four bytes.
+const CHART: Numbers = [2, 1, 1, 10, 4, 0, 10, 20, 0];
+const CHART_WIDTH: u16 = 96;
+const CHART_HEIGHT: u16 = 64;
+
+/// A color in full-range R'G'B' of 10 bits.
+type Color = [u16; 3];
+
+/// 75 % of full.
+const BAR: u16 = 767;
+
+/// Eight bars of 75 % color, from white to black.
+const BARS: [Color; 8] = [
+    [BAR, BAR, BAR],
+    [BAR, BAR, 0],
+    [0, BAR, BAR],
+    [0, BAR, 0],
+    [BAR, 0, BAR],
+    [BAR, 0, 0],
+    [0, 0, BAR],
+    [0, 0, 0],
+];
+
+/// Body paint: yellow ochre, white pipeclay and red earth.
+const PAINTS: [Color; 3] = [[818, 477, 136], [951, 923, 859], [570, 249, 160]];
+
+/// A color chart: bars, a ramp from black to white, and paints.
+fn chart() -> Vec<u8> {
+    let heights = [(32, 0), (12, 1), (20, 2)];
+    let bands = heights
+        .into_iter()
+        .flat_map(|(lines, band)| (0..lines).map(move |_| band));
+    bands
+        .flat_map(|band| {
+            line(|x| match band {
+                0 => BARS[x / 12],
+                1 => [(1023 * x / 95) as u16; 3],
+                _ => PAINTS[x / 32],
+            })
+        })
+        .collect()
+}
+
+/// The packed points of a line, from the color of each.
+fn line(color: impl Fn(usize) -> Color) -> Vec<u8> {
+    let points = usize::from(CHART_WIDTH);
+    let rgb: Vec<u16> = (0..points).flat_map(color).collect();
+    let (mut ycbcr, mut packed) = (vec![0; rgb.len()], vec![0; 4 * points]);
+    color::rgb_to_ycbcr([1, 10, 2, 1], &rgb, &mut ycbcr).expect("a line of codes");
+    lines::pack_line(CHART, &ycbcr, &mut packed).expect("a line of codes");
+    packed
 }
 
 /// As many cards as a stack may have, of every kind that the newest edition tells apart.

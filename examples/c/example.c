@@ -3,7 +3,9 @@
  * channel of it alone, sends codes to the ends of its range and tells how many were
  * cut. Then turns a line of an early capture into colors, and writes its card; and a
  * line of a tape deck, whose points share Cb and Cr two by two, which it also encodes.
- * Usage: example STACK */
+ * Last it exports a picture, from its card and its packed points, as a file that Netpbm
+ * and others read, which goes to PPM if that is given, and imports it again.
+ * Usage: example STACK CARD PACKED [PPM] */
 #include <imurraqi.h>
 
 #include <inttypes.h>
@@ -18,6 +20,9 @@ enum { NARROW = 1, FULL = 2, LEGACY_FULL = 3 };          /* ranges */
 enum { OWN = 0, GROUPS = 1 };                            /* samplings */
 enum { CR = 2 };                                         /* a channel */
 enum { COMMUNITY = 1 };                                  /* an access */
+enum { BT709 = 1 };                                      /* primaries */
+enum { ACCESS = 24 };                                    /* of a card */
+enum { PICTURE = 1 << 20 };                              /* bytes of points at most */
 enum { POINTS = 4, CODES = 3 * POINTS, EARLY_CODES = 6, TAPE = 2 * POINTS };
 
 /* White, red, green and blue, as item 203002 has them: Y', Cb and Cr of 10 bits
@@ -193,17 +198,103 @@ static void show_tape(void)
     show_card(tape_layout, 13, 4);
 }
 
+/* Room for so many bytes. */
+static uint8_t *room(int64_t len)
+{
+    uint8_t *bytes = malloc((size_t)len);
+    if (bytes == NULL) {
+        fprintf(stderr, "no memory\n");
+        exit(1);
+    }
+    return bytes;
+}
+
+/* The file of an open card's picture, and its length. For the community the same card
+ * is refused. */
+static uint8_t *show_export(const uint8_t *card, size_t card_len,
+                            const uint8_t *points, size_t len, size_t *file_len)
+{
+    uint8_t for_community[CARD];
+    uint64_t sum = 0;
+    int64_t told = good(imurraqi_ppm_export_len(card, card_len, 2));
+    uint8_t *file = room(told);
+    *file_len = (size_t)told;
+    int64_t count = good(
+        imurraqi_ppm_export(card, card_len, 2, points, len, file, *file_len));
+    printf("a picture, %d points in a file of %d bytes\n", (int)count,
+           (int)told);
+    printf("it begins");
+    for (int i = 0, at = 0; i < 3; i++, at++) {
+        printf(i == 0 ? " " : ", ");
+        for (; file[at] != '\n'; at++)
+            putchar(file[at]);
+    }
+    for (size_t i = 0; i < *file_len; i++)
+        sum += file[i];
+    printf("; its bytes add up to %" PRIu64 "\n", sum);
+    memcpy(for_community, card, CARD);
+    for_community[ACCESS] = COMMUNITY;
+    printf("for the community: %d\n",
+           (int)imurraqi_ppm_export_len(for_community, CARD, 2));
+    return file;
+}
+
+/* A card and points of a file. It cannot tell who may see it, so the card is closed,
+ * and is not exported until somebody opens it. A file that is cut short is refused. */
+static void show_import(const uint8_t *file, size_t len)
+{
+    static const char *const paints[] = {"ochre", "white", "red earth"};
+    uint8_t card[CARD], layout[LAYOUT];
+    uint64_t facts[4];
+    int64_t told = good(imurraqi_ppm_import_len(file, len));
+    uint8_t *points = room(told);
+    int64_t count = good(imurraqi_ppm_import(file, len, 600002, BT709, card,
+                                             CARD, points, (size_t)told));
+    good(imurraqi_card_read(card, CARD, 2, layout, facts));
+    printf("imported, %d points of %d bits in %d bytes: item %" PRIu64
+           ", %" PRIu64 " by %" PRIu64 ", access %" PRIu64 "\n",
+           (int)count, layout[DEPTH], layout[BYTES], facts[2], facts[0],
+           facts[1], facts[3]);
+    /* Of the last line, whose three paints lie side by side. */
+    size_t line = (size_t)facts[0] * layout[BYTES];
+    const uint8_t *last = points + (size_t)told - line;
+    for (int i = 0; i < 3; i++) {
+        uint16_t codes[3];
+        good(imurraqi_unpack_line(layout, last + 32 * i * layout[BYTES],
+                                  layout[BYTES], codes, 3));
+        printf("%s: R'G'B' %d %d %d\n", paints[i], codes[0], codes[1],
+               codes[2]);
+    }
+    printf("exported again: %d\n", (int)imurraqi_ppm_export_len(card, CARD, 2));
+    printf("cut short: %d\n", (int)imurraqi_ppm_import_len(file, 13));
+    free(points);
+}
+
+/* As many bytes of a file as there are, or as there is room for. */
+static size_t load(const char *name, uint8_t *bytes, size_t len)
+{
+    FILE *file = fopen(name, "rb");
+    if (file == NULL) {
+        fprintf(stderr, "usage: example STACK CARD PACKED [PPM]\n");
+        exit(2);
+    }
+    len = fread(bytes, 1, len, file);
+    fclose(file);
+    return len;
+}
+
 int main(int argc, char **argv)
 {
-    static uint8_t stack[STACK + 1]; /* one more, so that a longer file is refused */
-    uint8_t layout[LAYOUT], descriptor[DESCRIPTOR];
-    FILE *file = argc == 2 ? fopen(argv[1], "rb") : NULL;
-    if (file == NULL) {
-        fprintf(stderr, "usage: example STACK\n");
+    /* One more of each, so that a longer file is refused. */
+    static uint8_t stack[STACK + 1], points[PICTURE + 1];
+    uint8_t card[CARD + 1], layout[LAYOUT], descriptor[DESCRIPTOR];
+    if (argc < 4) {
+        fprintf(stderr, "usage: example STACK CARD PACKED [PPM]\n");
         return 2;
     }
-    size_t len = fread(stack, 1, sizeof stack, file);
-    fclose(file);
+    size_t len = load(argv[1], stack, sizeof stack);
+    size_t card_len = load(argv[2], card, sizeof card);
+    size_t points_len = load(argv[3], points, sizeof points);
 
     show_item(stack, len, 203002, layout);
     good(imurraqi_descriptor_write(layout, descriptor, sizeof descriptor));
@@ -214,5 +305,15 @@ int main(int argc, char **argv)
     printf("item 7: %d\n", (int)imurraqi_stack_find(stack, len, 2, 7));
     show_early();
     show_tape();
+    size_t file_len;
+    uint8_t *file = show_export(card, card_len, points, points_len, &file_len);
+    show_import(file, file_len);
+    FILE *ppm = argc > 4 ? fopen(argv[4], "wb") : NULL;
+    if (argc > 4 && (ppm == NULL || fwrite(file, 1, file_len, ppm) != file_len ||
+                     fclose(ppm) != 0)) {
+        perror("PPM");
+        return 1;
+    }
+    free(file);
     return 0;
 }

@@ -2,8 +2,10 @@
 //! descriptor of its layout, turns a line of its points into colors, reads one channel
 //! of it alone, sends codes to the ends of its range and tells how many were cut. Then
 //! turns a line of an early capture into colors, and writes its card; and a line of a
-//! tape deck, whose points share Cb and Cr two by two, which it also encodes.
-//! Usage: example STACK
+//! tape deck, whose points share Cb and Cr two by two, which it also encodes. Last it
+//! exports a picture, from its card and its packed points, as a file that Netpbm and others
+//! read, which goes to PPM if that is given, and imports it again.
+//! Usage: example STACK CARD PACKED [PPM]
 
 use imurraqi::{access, model, primaries, range, sampling};
 use imurraqi::{Facts, Layout, Refusal, CARD_SIZE, DESCRIPTOR_SIZE};
@@ -176,7 +178,58 @@ fn show_tape() -> Result<(), Refusal> {
     show_card(TAPE_LAYOUT, 13, 4)
 }
 
-fn show(stack: &[u8]) -> Result<(), Refusal> {
+/// The file of an open card's picture. For the community the same card is refused.
+fn show_export(card: &[u8], packed: &[u8]) -> Result<Vec<u8>, Refusal> {
+    let mut file = vec![0; imurraqi::ppm_export_len(card, 2)?];
+    let points = imurraqi::ppm_export(card, 2, packed, &mut file)?;
+    let lines: Vec<&[u8]> = file.splitn(4, |&byte| byte == b'\n').collect();
+    let [first, sides, largest] = [0, 1, 2].map(|line| String::from_utf8_lossy(lines[line]));
+    let length = file.len();
+    println!("a picture, {points} points in a file of {length} bytes");
+    let sum: usize = file.iter().copied().map(usize::from).sum();
+    println!("it begins {first}, {sides}, {largest}; its bytes add up to {sum}");
+    let mut for_community = card.to_vec();
+    for_community[24] = access::COMMUNITY;
+    let told = imurraqi::ppm_export_len(&for_community, 2);
+    if let Err(refusal @ Refusal::NOT_OPEN) = told {
+        println!("for the community: -{}", refusal.number());
+    }
+    Ok(file)
+}
+
+/// A card and points of a file. It cannot tell who may see it, so the card is closed, and is
+/// not exported until somebody opens it. A file that is cut short is refused.
+fn show_import(file: &[u8]) -> Result<(), Refusal> {
+    let (mut card, mut packed) = ([0; CARD_SIZE], vec![0; imurraqi::ppm_import_len(file)?]);
+    let points = imurraqi::ppm_import(file, 600002, primaries::BT709, &mut card, &mut packed)?;
+    let Facts {
+        layout,
+        width,
+        height,
+        item,
+        access,
+    } = imurraqi::card_read(&card, 2)?;
+    let (depth, bytes) = (layout.depth, layout.bytes);
+    print!("imported, {points} points of {depth} bits in {bytes} bytes: ");
+    println!("item {item}, {width} by {height}, access {access}");
+    // Of the last line, whose three paints lie side by side.
+    let line = &packed[packed.len() - usize::from(width) * usize::from(bytes)..];
+    let mut codes = vec![0; 3 * usize::from(width)];
+    imurraqi::unpack_line(layout, line, &mut codes)?;
+    for (name, point) in [("ochre", 0), ("white", 32), ("red earth", 64)] {
+        let [r, g, b] = [0, 1, 2].map(|channel| codes[3 * point + channel]);
+        println!("{name}: R'G'B' {r} {g} {b}");
+    }
+    if let Err(refusal @ Refusal::NOT_OPEN) = imurraqi::ppm_export_len(&card, 2) {
+        println!("exported again: -{}", refusal.number());
+    }
+    if let Err(refusal @ Refusal::WRONG_PICTURE) = imurraqi::ppm_import_len(&file[..13]) {
+        println!("cut short: -{}", refusal.number());
+    }
+    Ok(())
+}
+
+fn show(stack: &[u8], card: &[u8], packed: &[u8]) -> Result<Vec<u8>, Refusal> {
     let layout = show_item(stack, 203002)?;
     let mut descriptor = [0; DESCRIPTOR_SIZE];
     imurraqi::descriptor_write(layout, &mut descriptor)?;
@@ -188,19 +241,31 @@ fn show(stack: &[u8]) -> Result<(), Refusal> {
         println!("item 7: -{}", refusal.number());
     }
     show_early()?;
-    show_tape()
+    show_tape()?;
+    let file = show_export(card, packed)?;
+    show_import(&file)?;
+    Ok(file)
 }
 
 fn main() -> ExitCode {
-    let Some(Ok(stack)) = std::env::args_os().nth(1).map(std::fs::read) else {
-        eprintln!("usage: example STACK");
+    let mut given = std::env::args_os().skip(1);
+    let mut load = || given.next().and_then(|name| std::fs::read(name).ok());
+    let (Some(stack), Some(card), Some(packed)) = (load(), load(), load()) else {
+        eprintln!("usage: example STACK CARD PACKED [PPM]");
         return ExitCode::from(2);
     };
-    match show(&stack) {
-        Ok(()) => ExitCode::SUCCESS,
+    let file = match show(&stack, &card, &packed) {
+        Ok(file) => file,
         Err(refusal) => {
             eprintln!("refused {}", refusal.number());
+            return ExitCode::FAILURE;
+        }
+    };
+    match given.next().map(|name| std::fs::write(name, file)) {
+        Some(Err(error)) => {
+            eprintln!("PPM: {error}");
             ExitCode::FAILURE
         }
+        _ => ExitCode::SUCCESS,
     }
 }

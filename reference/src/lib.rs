@@ -17,6 +17,7 @@ pub mod groups;
 pub mod history;
 pub mod layout;
 pub mod lines;
+pub mod pictures;
 pub mod quantization;
 pub mod refusal;
 pub mod stack;

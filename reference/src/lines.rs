@@ -141,7 +141,7 @@ fn looked_at<T: Copy>(layout: Layout, elements: &[T]) -> Vec<T> {
 }
 
 /// The packed points or groups that are made of these codes.
-fn made(layout: Layout, codes: &[u16]) -> Vec<u8> {
+pub(crate) fn made(layout: Layout, codes: &[u16]) -> Vec<u8> {
     let codes = codes.chunks(channels(layout).len());
     if layout.shares_color() {
         codes.flat_map(groups::bytes).collect()
@@ -162,7 +162,7 @@ fn point(layout: Layout, codes: &[u16]) -> u64 {
 }
 
 /// The codes of packed points or groups, three a point.
-fn unpacked(layout: Layout, packed: &[u8]) -> Vec<u16> {
+pub(crate) fn unpacked(layout: Layout, packed: &[u8]) -> Vec<u16> {
     let packed = packed.chunks(layout.point_bytes());
     if layout.shares_color() {
         packed.flat_map(groups::codes).collect()

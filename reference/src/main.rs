@@ -10,6 +10,7 @@ use reference::descriptor;
 use reference::fields;
 use reference::layout::{Layout, Numbers};
 use reference::lines;
+use reference::pictures;
 use reference::quantization::{self, Kind, Scale};
 use reference::refusal::Refusal;
 use reference::stack;
@@ -33,6 +34,10 @@ usage: reference dequantize MODEL RANGE DEPTH CHANNEL CODE
        reference rewrite-card EDITION BYTES
        reference find EDITION ITEM BYTES
        reference list BYTES
+       reference export EDITION CARD BYTES
+       reference export-len EDITION CARD
+       reference import ITEM PRIMARIES BYTES
+       reference import-len BYTES
 MODEL       1 RGB, 2 Y'CbCr
 RANGE       1 narrow, 2 full, 3 the older full range
 DEPTH       8, 10 or 12
@@ -48,7 +53,8 @@ WAY         primaries, depth, range of the R'G'B' codes, range of the Y'CbCr cod
 EDITION     1, 2, 3 or 4
 ACCESS      0 closed, 1 community, 2 open
 BYTES       hexadecimal digits, two a byte: packed points or groups, the bytes of a
-            field, or a descriptor, a card or a stack to read
+            field, or a descriptor, a card, a stack or a picture file to read
+CARD        the bytes of a card
 quantize, encode, ycbcr and rgb also tell how many values were cut: those whose rounded
 number lay outside the span to which it is clamped, and infinities
 there-and-back tells the Y'CbCr codes of R'G'B' codes, the R'G'B' codes of those, by how
@@ -149,6 +155,24 @@ fn answer(arguments: &[&str]) -> Option<Result<String, Refusal>> {
             Some(index.map(|index| index.to_string()))
         }
         ["list", stack] => Some(Ok(stack::list(&bytes(stack)?).trim_end().to_string())),
+        ["export", edition, card, packed] => Some(export(
+            &bytes(card)?,
+            edition.parse().ok()?,
+            &bytes(packed)?,
+        )),
+        ["export-len", edition, card] => {
+            let length = pictures::export_len(&bytes(card)?, edition.parse().ok()?);
+            Some(length.map(|length| length.to_string()))
+        }
+        ["import", item, primaries, ppm] => Some(import(
+            &bytes(ppm)?,
+            item.parse().ok()?,
+            primaries.parse().ok()?,
+        )),
+        ["import-len", ppm] => {
+            let length = pictures::import_len(&bytes(ppm)?);
+            Some(length.map(|length| length.to_string()))
+        }
         _ => None,
     }
 }
@@ -218,6 +242,22 @@ fn made_card(make: impl FnOnce(&mut [u8]) -> Result<(), Refusal>) -> Result<Stri
     let mut card = [0; card::SIZE];
     make(&mut card)?;
     Ok(hexadecimal(&card))
+}
+
+/// The bytes of a picture file.
+fn export(card: &[u8], edition: u8, packed: &[u8]) -> Result<String, Refusal> {
+    let mut file = vec![0; pictures::export_len(card, edition)?];
+    pictures::export(card, edition, packed, &mut file)?;
+    Ok(hexadecimal(&file))
+}
+
+/// The bytes of a picture's card, and those of its points. Without a header there is no
+/// room to make for them, but the item and primaries are refused first.
+fn import(ppm: &[u8], item: u64, primaries: u8) -> Result<String, Refusal> {
+    let mut card = [0; card::SIZE];
+    let mut packed = vec![0; pictures::import_len(ppm).unwrap_or(0)];
+    pictures::import(ppm, item, primaries, &mut card, &mut packed)?;
+    Ok(format!("{} {}", hexadecimal(&card), hexadecimal(&packed)))
 }
 
 /// The facts in the order in which they are given to be written.

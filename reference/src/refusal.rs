@@ -28,13 +28,17 @@ pub enum Refusal {
     EditionLacks = 11,
     NotANumber = 12,
     /// A line not of whole points or groups or over 4,096 points, not exactly the bytes
-    /// of a field, or an output that is not exactly as long as needed.
+    /// of a field or of a picture, or an output that is not exactly as long as needed.
     Length = 13,
     /// A code above 2^n - 1.
     CodeTooHigh = 14,
     NoItem = 15,
     /// Of groups: an odd width, or an odd count of whole points to encode or pack.
     OddCount = 16,
+    /// A card to export that is not shown as open.
+    NotOpen = 17,
+    /// A picture file whose header is not of our form, or with a code above its largest.
+    Picture = 18,
 }
 
 impl Refusal {

@@ -9,6 +9,7 @@ use self::card::{CardRead, CardRewrite, CardWrite, StackFind};
 use self::entry::Entry;
 use self::history::Replay;
 use self::memory::{InPlace, Memory};
+use self::picture::{PpmExport, PpmExportLen, PpmImport, PpmImportLen};
 use self::program::StackList;
 
 pub mod binding;
@@ -18,6 +19,7 @@ mod fields;
 pub mod history;
 mod lines;
 pub mod memory;
+pub mod picture;
 pub mod program;
 
 /// Model, range, depth and channel, in this order.
@@ -98,6 +100,10 @@ pub struct Library {
     pub card_rewrite: CardRewrite,
     pub replay: Replay,
     pub stack_find: StackFind,
+    pub ppm_export: PpmExport,
+    pub ppm_export_len: PpmExportLen,
+    pub ppm_import: PpmImport,
+    pub ppm_import_len: PpmImportLen,
     /// The list is a program of its own.
     pub stack_list: StackList,
 }
@@ -143,6 +149,10 @@ pub const fn linked<M: Memory>() -> Library {
         card_rewrite: card::card_rewrite::<M>,
         replay: history::replay::<M>,
         stack_find: card::stack_find::<M>,
+        ppm_export: picture::ppm_export::<M>,
+        ppm_export_len: picture::ppm_export_len::<M>,
+        ppm_import: picture::ppm_import::<M>,
+        ppm_import_len: picture::ppm_import_len::<M>,
         stack_list: program::stack_list,
     }
 }

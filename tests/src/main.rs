@@ -21,8 +21,10 @@ mod layouts;
 mod library;
 mod lines;
 mod list;
+mod netpbm;
 mod pages;
 mod part;
+mod picture;
 mod plain;
 mod quantization;
 mod random;
@@ -70,9 +72,13 @@ fn ordinary() -> bool {
     let mut total = Tally::default();
     let parts = part::library_parts()
         .chain(part::whole_parts())
-        .chain(part::reference_parts());
+        .chain(part::reference_parts())
+        .chain(netpbm::parts());
     for part in parts {
         total.add(run(part));
+    }
+    if let Some(program) = netpbm::missing() {
+        println!("pictures, by Netpbm: not tried, there is no {program} (Debian: netpbm)");
     }
     total.add(through_the_binding());
     let (all_seen, beside_pages) = pages::run();

@@ -9,7 +9,7 @@ use crate::library::{linked, Library};
 use crate::part::{entry_parts, Part};
 use crate::show_differences;
 use crate::tally::Tally;
-use crate::{card, color, descriptor, field, history, lines, quantization, stack};
+use crate::{card, color, descriptor, field, history, lines, picture, quantization, stack};
 
 use self::paged::{Paged, Side};
 use self::seen::Seen;
@@ -123,5 +123,8 @@ fn parts_of(entry: Entry) -> &'static [Part] {
         Entry::CardRead | Entry::CardWrite | Entry::CardRewrite => card::PARTS,
         Entry::Replay => history::PARTS,
         Entry::StackFind => stack::PARTS,
+        Entry::PpmExport | Entry::PpmExportLen | Entry::PpmImport | Entry::PpmImportLen => {
+            picture::PARTS
+        }
     }
 }

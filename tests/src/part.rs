@@ -8,6 +8,7 @@ use crate::history;
 use crate::library::Library;
 use crate::lines;
 use crate::list;
+use crate::picture;
 use crate::quantization;
 use crate::stack;
 use crate::tally::{Flow, Tally};
@@ -38,6 +39,7 @@ pub fn entry_parts() -> impl Iterator<Item = &'static Part> {
         card::PARTS,
         history::PARTS,
         stack::PARTS,
+        picture::PARTS,
     ]
     .into_iter()
     .flatten()
@@ -45,9 +47,13 @@ pub fn entry_parts() -> impl Iterator<Item = &'static Part> {
 
 /// Every part that goes through a whole domain: once, of the library that is linked.
 pub fn whole_parts() -> impl Iterator<Item = &'static Part> {
-    [lines::groups::WHOLE_PARTS, color::WHOLE_PARTS]
-        .into_iter()
-        .flatten()
+    [
+        lines::groups::WHOLE_PARTS,
+        color::WHOLE_PARTS,
+        picture::WHOLE_PARTS,
+    ]
+    .into_iter()
+    .flatten()
 }
 
 /// Every part that needs no library.

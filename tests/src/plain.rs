@@ -1,7 +1,7 @@
 //! A plain program, which knows nothing of the reference's numbers: values in
 //! float arithmetic, fields from a point of zeros, points and groups bit by bit, descriptors
 //! byte by byte, colors over one denominator, cards row by row, stacks from their
-//! end. Its pieces can be exchanged for wrong ones.
+//! end, pictures code by code. Its pieces can be exchanged for wrong ones.
 
 use crate::library::{Convert, Library, Quantize};
 
@@ -12,6 +12,7 @@ pub mod field;
 pub mod history;
 pub mod layout;
 pub mod lines;
+pub mod picture;
 pub mod quantization;
 pub mod stack;
 
@@ -49,6 +50,14 @@ pub const PLAIN: Library = Library {
     },
     replay: |asked| history::replayed(asked, &PLAIN),
     stack_find: stack::found,
+    ppm_export: |card, edition, packed, out| {
+        picture::exported(card, edition, packed, out, &picture::EXPORTING)
+    },
+    ppm_export_len: |card, edition| picture::export_told(card, edition, &picture::EXPORTING),
+    ppm_import: |ppm, item, primaries, made| {
+        picture::imported(ppm, item, primaries, made, &picture::IMPORTING)
+    },
+    ppm_import_len: |ppm| picture::import_told(ppm, &picture::IMPORTING),
     stack_list: |pieces| {
         stack::listed(
             pieces,

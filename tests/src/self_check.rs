@@ -5,9 +5,10 @@ use std::sync::atomic::{AtomicUsize, Ordering};
 use std::thread;
 
 use crate::library::Library;
+use crate::netpbm;
 use crate::part::{library_parts, Part};
 use crate::tally::Tally;
-use crate::wrong::{RIGHT, RIGHT_FOR, WRONG};
+use crate::wrong::{FOR_NETPBM, RIGHT, RIGHT_FOR, WRONG};
 
 /// A program with the parts that try it.
 struct Trial {
@@ -48,10 +49,15 @@ fn right_trials() -> impl Iterator<Item = Trial> {
     })
 }
 
-/// A subject's wrong programs must be caught by its own parts.
+/// A subject's wrong programs must be caught by its own parts; Netpbm's, if it is installed.
 fn wrong_trials() -> impl Iterator<Item = Trial> {
-    WRONG.iter().flat_map(|(parts, programs)| {
-        programs.iter().map(|(mistake, library)| Trial {
+    let for_netpbm = FOR_NETPBM
+        .iter()
+        .filter(|_| !netpbm::parts().is_empty())
+        .map(|&programs| (netpbm::parts(), programs));
+    let wrong = WRONG.iter().copied().chain(for_netpbm);
+    wrong.flat_map(|(parts, programs)| {
+        programs.iter().map(move |(mistake, library)| Trial {
             mistake: Some(mistake),
             library,
             parts: parts.iter().collect(),

@@ -15,6 +15,9 @@ use crate::lines::{
 };
 use crate::list::{self as lists, EXPECTED_LIST};
 use crate::part::Part;
+use crate::picture::{
+    self as pictures, expected_export, expected_export_len, expected_import, expected_import_len,
+};
 use crate::plain::PLAIN;
 use crate::quantization::{self as values, expected_dequantize, expected_quantize};
 use crate::stack::{self as stacks, expected_find};
@@ -49,6 +52,7 @@ mod groups;
 mod history;
 mod list;
 mod pack;
+mod picture;
 mod points;
 mod quantization;
 mod rising;
@@ -79,13 +83,23 @@ pub const REFERENCE: Library = Library {
     card_rewrite: expected_rewrite,
     replay: expected_replay,
     stack_find: expected_find,
+    ppm_export: expected_export,
+    ppm_export_len: expected_export_len,
+    ppm_import: expected_import,
+    ppm_import_len: expected_import_len,
     stack_list: EXPECTED_LIST,
 };
 
 pub const RIGHT: &[Library] = &[REFERENCE, PLAIN];
 
 /// Programs that are right for some parts alone.
-pub const RIGHT_FOR: &[(&[Part], Library)] = &[(&[colors::bound::WHOLE], bound_whole::RIGHT)];
+pub const RIGHT_FOR: &[(&[Part], Library)] = &[
+    (&[colors::bound::WHOLE], bound_whole::RIGHT),
+    (pictures::WHOLE_PARTS, picture::whole::RIGHT),
+];
+
+/// Those that Netpbm must show.
+pub const FOR_NETPBM: &[&[Wrong]] = &[picture::by_netpbm::EXPORTS, picture::by_netpbm::IMPORTS];
 
 /// The wrong programs of each subject, with the parts that must catch them.
 pub const WRONG: &[(&[Part], &[Wrong])] = &[
@@ -164,6 +178,30 @@ pub const WRONG: &[(&[Part], &[Wrong])] = &[
     (stacks::PARTS, stack::WRONG),
     (stacks::PARTS, stack_refusals::WRONG),
     (stacks::PARTS, groups::cards::FINDING),
+    (pictures::PARTS, picture::codes::WRONG),
+    (pictures::PARTS, picture::groups::WRONG),
+    (pictures::PARTS, picture::files::HEADERS),
+    (pictures::PARTS, picture::files::STORED),
+    (pictures::PARTS, picture::files::WRONG),
+    (pictures::PARTS, picture::export_refusals::WRONG),
+    (pictures::PARTS, picture::export_refusals::ANSWERS),
+    (pictures::PARTS, picture::export_refusals::LENGTHS),
+    (pictures::PARTS, picture::lengths::EXPORTING),
+    (pictures::PARTS, picture::lengths::OF_FILES),
+    (pictures::PARTS, picture::lengths::OF_POINTS),
+    (pictures::PARTS, picture::lengths::IMPORTING),
+    (pictures::PARTS, picture::card_made::WRONG),
+    (pictures::PARTS, picture::card_made::STORED),
+    (pictures::PARTS, picture::card_made::ANSWERS),
+    (pictures::PARTS, picture::import_refusals::ROWS),
+    (pictures::PARTS, picture::import_refusals::CODES_ABOVE),
+    (pictures::PARTS, picture::import_refusals::WRONG),
+    (pictures::PARTS, picture::headers::TAKEN),
+    (pictures::PARTS, picture::headers::READ),
+    (pictures::PARTS, picture::memory::BEGUN),
+    (pictures::PARTS, picture::memory::LEFT),
+    (pictures::PARTS, picture::memory::WRONG),
+    (pictures::WHOLE_PARTS, picture::whole::WRONG),
     (lists::PARTS, list::WRONG),
     (lists::PARTS, groups::cards::LISTING),
 ];

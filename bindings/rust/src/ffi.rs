@@ -167,4 +167,29 @@ extern "C" {
     ) -> i64;
 
     pub fn imurraqi_stack_find(stack: *const u8, len: usize, edition: u8, item: u64) -> i64;
+
+    pub fn imurraqi_ppm_export(
+        card: *const u8,
+        card_len: usize,
+        edition: u8,
+        packed: *const u8,
+        packed_len: usize,
+        out: *mut u8,
+        out_len: usize,
+    ) -> i64;
+
+    pub fn imurraqi_ppm_export_len(card: *const u8, card_len: usize, edition: u8) -> i64;
+
+    pub fn imurraqi_ppm_import(
+        ppm: *const u8,
+        len: usize,
+        item: u64,
+        primaries: u8,
+        card: *mut u8,
+        card_len: usize,
+        packed: *mut u8,
+        packed_len: usize,
+    ) -> i64;
+
+    pub fn imurraqi_ppm_import_len(ppm: *const u8, len: usize) -> i64;
 }

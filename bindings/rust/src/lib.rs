@@ -1,5 +1,5 @@
 //! The verified codec Imurraqi over slices: lines of video points, the descriptors
-//! of their layouts, and catalogue cards.
+//! of their layouts, catalogue cards, and pictures.
 //!
 //! Every function of the C interface is here, with numbers and slices in and a
 //! [`Result`] out. A call is answered, or refused by a [`Refusal`], and then nothing
@@ -44,6 +44,7 @@ mod fields;
 mod history;
 mod layout;
 mod lines;
+mod pictures;
 mod refusal;
 mod values;
 
@@ -60,5 +61,6 @@ pub use layout::{model, primaries, range, sampling, Layout};
 pub use lines::{
     decode_line, decode_point, encode_line, encode_point, pack_line, unpack_line, MOST_POINTS,
 };
+pub use pictures::{ppm_export, ppm_export_len, ppm_import, ppm_import_len};
 pub use refusal::Refusal;
 pub use values::{dequantize, quantize, Dequantized, Quantized, Setting};

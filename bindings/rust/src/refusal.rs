@@ -57,10 +57,14 @@ table! {
     11 UNWRITABLE "the edition lacks the layout or the access";
     12 NOT_A_NUMBER "a float is not a number";
     13 WRONG_LINE_OR_OUTPUT "a line not of whole points or groups or of over 4,096 points, \
-        not exactly the bytes of a field, or an output not exactly as long as needed";
+        not exactly the bytes of a field or of a picture, \
+        or an output not exactly as long as needed";
     14 CODE_TOO_HIGH "a code is too high for its depth";
     15 NO_ITEM "no card that the edition reads has the item";
     16 ODD_COUNT "of groups: an odd width, or an odd count of whole points to encode or pack";
+    17 NOT_OPEN "the card is not open, so that no picture is made of it";
+    18 WRONG_PICTURE "a picture file without a header of the form that is accepted, \
+        or with a code above the largest that its header tells";
 }
 
 impl Refusal {

@@ -94,6 +94,22 @@ pub const BINDING: Library = Library {
     },
     replay,
     stack_find: |stack, edition, item| count(imurraqi::stack_find(stack.elements(), edition, item)),
+    ppm_export: |card, edition, packed, out| {
+        let (card, packed) = (card.elements(), packed.elements());
+        count(imurraqi::ppm_export(card, edition, packed, out.output()))
+    },
+    ppm_export_len: |card, edition| count(imurraqi::ppm_export_len(card.elements(), edition)),
+    ppm_import: |ppm, item, primaries, made| {
+        let (card, packed) = (made.card.output(), made.packed.output());
+        count(imurraqi::ppm_import(
+            ppm.elements(),
+            item,
+            primaries,
+            card,
+            packed,
+        ))
+    },
+    ppm_import_len: |ppm| count(imurraqi::ppm_import_len(ppm.elements())),
     stack_list,
 };
 

@@ -23,6 +23,10 @@ pub enum Entry {
     CardRewrite,
     Replay,
     StackFind,
+    PpmExport,
+    PpmExportLen,
+    PpmImport,
+    PpmImportLen,
 }
 
 /// What lies behind a pointer, by the pointer's name: only read, or written to.
@@ -70,7 +74,7 @@ const fn describe(
 }
 
 /// All of them, in the order of their numbers.
-pub static ENTRIES: [Description; 19] = [
+pub static ENTRIES: [Description; 23] = [
     describe(
         Entry::DescriptorRead,
         "imurraqi_descriptor_read",
@@ -195,5 +199,29 @@ pub static ENTRIES: [Description; 19] = [
         "imurraqi_stack_find",
         &[1, 7, 15],
         &[In("stack")],
+    ),
+    describe(
+        Entry::PpmExport,
+        "imurraqi_ppm_export",
+        &[1, 7, 8, 9, 10, 13, 16, 17],
+        &[In("card"), In("packed"), Out("out")],
+    ),
+    describe(
+        Entry::PpmExportLen,
+        "imurraqi_ppm_export_len",
+        &[1, 7, 8, 9, 10, 16, 17],
+        &[In("card")],
+    ),
+    describe(
+        Entry::PpmImport,
+        "imurraqi_ppm_import",
+        &[9, 13, 18],
+        &[In("ppm"), Out("card"), Out("packed")],
+    ),
+    describe(
+        Entry::PpmImportLen,
+        "imurraqi_ppm_import_len",
+        &[18],
+        &[In("ppm")],
     ),
 ];

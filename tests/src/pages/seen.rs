@@ -3,7 +3,7 @@
 use crate::library::entry::{Entry, ENTRIES};
 
 /// An accepted call is counted at 0, a refused one at its refusal's number.
-const ANSWERS: usize = 17;
+const ANSWERS: usize = 19;
 const ACCEPTED: usize = 0;
 
 type Pair = (Entry, usize);

@@ -71,7 +71,7 @@ fn is_refused(stack: &[u8]) -> bool {
 }
 
 /// The decimal digits of a number.
-fn number(text: &mut Vec<u8>, number: u64) {
+pub fn number(text: &mut Vec<u8>, number: u64) {
     if number > 9 {
         self::number(text, number / 10);
     }
