@@ -15,6 +15,9 @@ pub const LENGTHS: [usize; 6] = [1, 16, 64, 256, 1024, POINTS];
 /// Those of them at which the library before is measured too, beside the whole line.
 pub const BEFORE_LENGTHS: [usize; 3] = [1, 16, 256];
 
+/// Of so many rounds, pictures are measured in the first.
+pub const EACH_ROUNDS: usize = 5;
+
 /// A number of cuts as it is before a call that is checked: more than there can be.
 pub const NO_CUTS: u32 = u32::MAX;
 
@@ -50,9 +53,24 @@ pub struct Case {
     before: Option<Both<Side>>,
     /// The same at their lengths; none but for lines.
     before_lengths: Vec<Both<Side>>,
-    /// The library at each of the lengths that there are; none but for whole lines.
+    /// The library at each of the lengths that there are; none but for whole lines. A
+    /// picture's points as smaller pictures, of as many points as the last of them.
     lengths: Vec<Option<Side>>,
-    is_line: bool,
+    kind: Kind,
+}
+
+#[derive(Clone, Copy, PartialEq)]
+enum Kind {
+    Line,
+    Picture,
+    Call,
+}
+
+/// A picture, and the same points as smaller ones, with the points of each.
+pub struct Shots<I> {
+    pub whole: I,
+    pub small: Vec<I>,
+    pub points: [usize; 2],
 }
 
 /// A line, and the length of the output that is given with it.
@@ -102,7 +120,7 @@ impl Case {
             before: None,
             before_lengths: Vec::new(),
             lengths: LENGTHS.map(|length| at(library, length)).into(),
-            is_line: true,
+            kind: Kind::Line,
             label,
         })
     }
@@ -134,7 +152,7 @@ impl Case {
             before: None,
             before_lengths: Vec::new(),
             lengths: Vec::new(),
-            is_line: true,
+            kind: Kind::Line,
             label,
         })
     }
@@ -165,7 +183,80 @@ impl Case {
             before: None,
             before_lengths: Vec::new(),
             lengths: Vec::new(),
-            is_line: false,
+            kind: Kind::Call,
+            label,
+        })
+    }
+
+    /// A job on a picture, likewise: on the whole of it by both programs, and by the library
+    /// on the smaller ones. The outputs are for the whole and for a smaller one; what is
+    /// refused is given with the latter.
+    pub fn pictures<I, O>(
+        label: Label,
+        shots: Shots<I>,
+        refused: &[I],
+        [output, small_output]: [O; 2],
+        jobs: [CallJob<I, O>; 2],
+    ) -> Result<Case, String>
+    where
+        I: Clone + 'static,
+        O: Clone + PartialEq + 'static,
+    {
+        let Shots {
+            whole,
+            small,
+            points: [points, small_points],
+        } = shots;
+        let mut check = Check::new(&label);
+        let inputs = [(&whole, true, &output), (&small[0], true, &small_output)];
+        let refused = refused.iter().map(|input| (input, false, &small_output));
+        for (input, wanted, output) in inputs.into_iter().chain(refused) {
+            let [library, plain] = jobs.map(|job| move |made: &mut O| job(black_box(input), made));
+            check.add(wanted, output, library, plain)?;
+        }
+        let stack = check.stack;
+        let [library, plain] =
+            jobs.map(|job| picture_side(job, vec![(whole.clone(), output.clone())], points));
+        let small = small.into_iter().map(|input| (input, small_output.clone()));
+        let small = picture_side(jobs[0], small.collect(), small_points);
+        let mut lengths: Vec<Option<Side>> = (1..LENGTHS.len()).map(|_| None).collect();
+        lengths.push(Some(small));
+        Ok(Case {
+            stack,
+            library,
+            plain,
+            plain_short: None,
+            before: None,
+            before_lengths: Vec::new(),
+            lengths,
+            kind: Kind::Picture,
+            label,
+        })
+    }
+
+    /// What a setting ends in where the library stands beside another job of its own.
+    pub const BESIDE: &str = ", beside ycbcr_to_rgb and a copy";
+
+    /// The library's job on a picture beside such a job, in the place of plain Rust. An error
+    /// if they do not answer the same count of points.
+    pub fn two_sides(label: Label, sides: [Side; 2]) -> Result<Case, String> {
+        let [mut library, mut plain] = sides;
+        let answers = [library.answers(), plain.answers()];
+        if answers[0] != answers[1] {
+            return Err(label.wrong("different counts,", answers));
+        }
+        let stack = stack_use::bytes(&mut || {
+            library.answers();
+        });
+        Ok(Case {
+            stack,
+            library,
+            plain,
+            plain_short: None,
+            before: None,
+            before_lengths: Vec::new(),
+            lengths: Vec::new(),
+            kind: Kind::Picture,
             label,
         })
     }
@@ -211,7 +302,15 @@ impl Case {
     }
 
     pub fn is_line(&self) -> bool {
-        self.is_line
+        self.kind == Kind::Line
+    }
+
+    /// What is measured.
+    pub fn unit(&self) -> &'static str {
+        match self.kind {
+            Kind::Line | Kind::Picture => "point",
+            Kind::Call => "call",
+        }
     }
 
     /// Whether it is measured along whole lines.
@@ -222,6 +321,9 @@ impl Case {
     /// Measures all sides once. The programs take turns at going first, and so do
     /// the lengths: a processor learns the branches of a line that comes again.
     pub fn measure(&mut self, round: usize) {
+        if self.kind == Kind::Picture && !round.is_multiple_of(EACH_ROUNDS) {
+            return;
+        }
         let mut programs = vec![&mut self.library, &mut self.plain];
         programs.extend(self.before.iter_mut().flatten());
         measure_in_turn(programs, round);
@@ -275,7 +377,10 @@ impl Case {
     /// How the cost a point rises at most from one length to a longer one, as a
     /// median of the rounds' ratios; none but for lines.
     pub fn growth(&self) -> Option<f64> {
-        let lengths: Vec<&Side> = self.lengths.iter().flatten().collect();
+        let mut lengths: Vec<&Side> = self.lengths.iter().flatten().collect();
+        if self.kind == Kind::Picture {
+            lengths.push(&self.library);
+        }
         let longer = lengths.iter().enumerate();
         longer
             .flat_map(|(place, longer)| {
@@ -329,6 +434,19 @@ where
                 black_box(&mut cuts),
             )
         });
+        answers.sum()
+    })
+}
+
+/// A call for each picture of so many points, each with an output of its own.
+fn picture_side<I: 'static, O: 'static>(
+    job: CallJob<I, O>,
+    mut pictures: Vec<(I, O)>,
+    points: usize,
+) -> Side {
+    Side::long(points * pictures.len(), move || {
+        let pictures = pictures.iter_mut();
+        let answers = pictures.map(|(input, made)| job(black_box(input), black_box(made)));
         answers.sum()
     })
 }

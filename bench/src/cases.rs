@@ -9,6 +9,7 @@ mod descriptors;
 mod fields;
 mod history;
 mod lines;
+mod pictures;
 mod values;
 
 /// Inputs of one measurement of a short call.
@@ -24,6 +25,7 @@ pub fn all(before: Option<&Before>) -> Result<Vec<Case>, String> {
         colors::cases(before)?,
         cards::cases()?,
         history::cases()?,
+        pictures::cases()?,
     ];
     Ok(subjects.into_iter().flatten().collect())
 }

@@ -2,7 +2,7 @@
 
 use std::env;
 
-use crate::case::{BEFORE_LENGTHS, LENGTHS};
+use crate::case::{BEFORE_LENGTHS, EACH_ROUNDS, LENGTHS};
 use crate::inputs::POINTS;
 use crate::machine;
 use crate::stack_use;
@@ -31,7 +31,8 @@ pub fn text(load: &str, table: &str, verdict: &str, before: bool) -> String {
     );
     let machine = machine::kind();
     let lengths = LENGTHS.map(|length| length.to_string()).join(", ");
-    let limit = stack_use::LIMIT;
+    let (limit, picture_limit) = (stack_use::LIMIT, stack_use::PICTURE_LIMIT);
+    let picture_rounds = ROUNDS.div_ceil(EACH_ROUNDS);
     let before = if before { of_before() } else { String::new() };
     format!(
         "# Performance
@@ -56,6 +57,10 @@ Written by `bench/run --write`, from one run; `bench/run` alone prints the same 
   points both programs are given the same short lines.
 - *input*: a row's inputs are smooth and random lines, of all depths for colors; shown is the one with the greatest
   ratio.
+- *pictures* (ppm_export, ppm_import) have 1,920 by 1,080 points, and {picture_rounds} rounds. At 4096 stands the library where
+  the same points are given as pictures of 64 by 64, each with its own place in memory; *growth* is from there to the whole.
+  Where a row says *beside ycbcr_to_rgb and a copy*, the column *plain* has the library's own conversion of the same points, as
+  lines of 1,920 points' codes, and a copy of each line made: half as many points a second are to be exported at least.
 - *aim*: the ratio that is not to be exceeded, where one is set. It is not enforced. But the run fails if one of the
   two takes over {MOST_APART} times as long as the other to decode a line: a loop that the compiler no longer does four points of
   at a time takes 1.4 to 2.5 times as long, and nothing else would tell.{before}
@@ -65,7 +70,7 @@ Written by `bench/run --write`, from one run; `bench/run` alone prints the same 
   inputs: under 1 it falls everywhere. The run fails above {MOST_GROWTH}.
 - *ratio at 1*: the ratio to plain Rust where both are given the line as lines of one point.
 - *stack*: the most bytes of stack that a call used, on accepted and refused inputs; the return address and the few
-  frames between the benchmark and the entry are counted too. The run fails above {limit}.
+  frames between the benchmark and the entry are counted too. The run fails above {limit}, for pictures above {picture_limit}.
 
 ## Shapes, and why they are exact
 

@@ -5,4 +5,5 @@ pub mod descriptors;
 pub mod fields;
 pub mod history;
 pub mod lines;
+pub mod pictures;
 pub mod values;

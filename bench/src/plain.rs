@@ -9,5 +9,6 @@ pub mod groups;
 pub mod history;
 pub mod layout;
 pub mod lines;
+pub mod pictures;
 pub mod refusal;
 pub mod values;

@@ -6,10 +6,14 @@ use std::time::Instant;
 /// Runs in one measurement: enough for the clock, few enough to stay undisturbed.
 const RUNS: usize = 8;
 
+/// The same of a long run.
+const LONG_RUNS: usize = 1;
+
 pub struct Side {
     run: Box<dyn FnMut() -> i64>,
     /// The points or calls of one run.
     count: usize,
+    runs: usize,
     /// Nanoseconds a point or a call, one for each round.
     times: Vec<f64>,
 }
@@ -19,7 +23,16 @@ impl Side {
         Side {
             run: Box::new(run),
             count,
+            runs: RUNS,
             times: Vec::new(),
+        }
+    }
+
+    /// One whose every run is long, as that of a whole picture is.
+    pub fn long(count: usize, run: impl FnMut() -> i64 + 'static) -> Side {
+        Side {
+            runs: LONG_RUNS,
+            ..Side::new(count, run)
         }
     }
 
@@ -32,11 +45,12 @@ impl Side {
         // Once unmeasured, so that the memory is near and the loop is known.
         self.answers();
         let start = Instant::now();
-        for _ in 0..RUNS {
+        for _ in 0..self.runs {
             self.answers();
         }
         let nanoseconds = start.elapsed().as_nanos() as f64;
-        self.times.push(nanoseconds / (RUNS * self.count) as f64);
+        self.times
+            .push(nanoseconds / (self.runs * self.count) as f64);
     }
 
     pub fn median(&self) -> f64 {

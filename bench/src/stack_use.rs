@@ -4,8 +4,9 @@
 use std::arch::asm;
 use std::hint::black_box;
 
-/// The most that any entry may use.
+/// The most that any entry may use, and one that exports or imports a picture.
 pub const LIMIT: usize = 2048;
+pub const PICTURE_LIMIT: usize = 4096;
 
 const SIZE: usize = 1 << 18;
 
@@ -18,9 +19,17 @@ pub fn bytes(call: Call) -> usize {
     used[0].max(used[1])
 }
 
-/// Whether a call that fills more than the limit is seen to.
+/// The most that an entry may use.
+pub fn limit(entry: &str) -> usize {
+    match entry {
+        "ppm_export" | "ppm_import" => PICTURE_LIMIT,
+        _ => LIMIT,
+    }
+}
+
+/// Whether a call that fills more than the limits is seen to.
 pub fn is_seen() -> bool {
-    const MORE: usize = LIMIT + 1;
+    const MORE: usize = PICTURE_LIMIT + 1;
     let used = bytes(&mut || {
         black_box([1u8; MORE]);
     });

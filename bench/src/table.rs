@@ -81,7 +81,7 @@ impl Row<'_> {
     }
 
     pub fn too_deep(&self) -> bool {
-        self.stack() > stack_use::LIMIT
+        self.stack() > stack_use::limit(self.entry())
     }
 
     pub fn stack(&self) -> usize {
@@ -116,7 +116,7 @@ impl Row<'_> {
             case.label.entry.to_string(),
             case.label.setting.clone(),
             case.label.input.clone(),
-            if case.is_line() { "point" } else { "call" }.to_string(),
+            case.unit().to_string(),
             nanoseconds(case.library()),
             nanoseconds(case.plain()),
             times(Some(case.ratio())),
@@ -145,6 +145,7 @@ impl Row<'_> {
 fn aim(case: &Case) -> Option<f64> {
     match case.label.entry {
         _ if case.is_line() && !case.is_whole_line() => None,
+        _ if case.label.setting.ends_with(Case::BESIDE) => Some(2.0),
         "decode_line" | "unpack_line" | "pack_line" => Some(1.1),
         "encode_line" => Some(0.7),
         "rgb_to_ycbcr" | "ycbcr_to_rgb" => Some(0.45),

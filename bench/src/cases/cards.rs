@@ -53,7 +53,7 @@ fn odd_facts(random: &mut Random) -> Facts {
     }
 }
 
-fn card(facts: Facts) -> Vec<u8> {
+pub fn card(facts: Facts) -> Vec<u8> {
     let mut card = vec![0; BYTES];
     plain::cards::write(NEWEST, facts, &mut card);
     card

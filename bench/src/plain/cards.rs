@@ -12,7 +12,7 @@ pub const MOST_CARDS: usize = 1024;
 pub const NEWEST: u8 = 4;
 
 const CLOSED: u8 = 0;
-const OPEN: u8 = 2;
+pub const OPEN: u8 = 2;
 
 #[derive(Clone, Copy, Debug)]
 pub struct Facts {

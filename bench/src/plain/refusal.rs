@@ -16,3 +16,5 @@ pub const LENGTH: i64 = -13;
 pub const CODE_TOO_HIGH: i64 = -14;
 pub const NO_ITEM: i64 = -15;
 pub const ODD_COUNT: i64 = -16;
+pub const NOT_OPEN: i64 = -17;
+pub const PICTURE: i64 = -18;
