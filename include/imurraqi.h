@@ -212,8 +212,8 @@ int64_t imurraqi_stack_find(const uint8_t *stack, size_t len, uint8_t edition,
                             uint64_t item);
 
 /* Writes the picture of an open card as a file that others read: binary PPM
- * (Netpbm's P6). packed: all lines of the picture, one after the other, points or
- * groups as the card's layout says. Every point becomes full-range R', G', B' of its
+ * (Netpbm's P6). packed: all lines of the picture, one after the other with nothing
+ * between them: width times height points, or half as many groups. Every point becomes full-range R', G', B' of its
  * depth: full-range codes stay as they are, narrow ones are converted from their
  * exact fractions and rounded once, and Y', Cb, Cr as imurraqi_ycbcr_to_rgb does
  * by the card's primaries. The file begins with the text
