@@ -92,6 +92,22 @@ pub type LineJob<S, I, O> = fn(S, &[I], &mut [O], &mut u32) -> i64;
 pub type CallJob<I, O> = fn(&I, &mut O) -> i64;
 
 impl Case {
+    /// The library and plain Rust at one length alone.
+    fn alone(kind: Kind, label: Label, stack: usize, sides: [Side; 2]) -> Case {
+        let [library, plain] = sides;
+        Case {
+            label,
+            stack,
+            library,
+            plain,
+            plain_short: None,
+            before: None,
+            before_lengths: Vec::new(),
+            lengths: Vec::new(),
+            kind,
+        }
+    }
+
     /// A job on a line of `POINTS` points. An error if the two programs do not give
     /// the same output, or do not refuse the lines that are to be refused.
     pub fn line<S, I, O>(
@@ -112,16 +128,11 @@ impl Case {
             let whole = length.is_multiple_of(accepted.points_each);
             whole.then(|| side(job, length))
         };
+        let sides = [side(library, POINTS), side(plain, POINTS)];
         Ok(Case {
-            stack,
-            library: side(library, POINTS),
-            plain: side(plain, POINTS),
             plain_short: at(plain, LENGTHS[0]),
-            before: None,
-            before_lengths: Vec::new(),
             lengths: LENGTHS.map(|length| at(library, length)).into(),
-            kind: Kind::Line,
-            label,
+            ..Case::alone(Kind::Line, label, stack, sides)
         })
     }
 
@@ -143,18 +154,8 @@ impl Case {
             ..whole
         };
         let stack = checked_lines(&label, &first, &[], jobs)?;
-        let [library, plain] = jobs.map(|job| line_side(job, whole.clone(), length));
-        Ok(Case {
-            stack,
-            library,
-            plain,
-            plain_short: None,
-            before: None,
-            before_lengths: Vec::new(),
-            lengths: Vec::new(),
-            kind: Kind::Line,
-            label,
-        })
+        let sides = jobs.map(|job| line_side(job, whole.clone(), length));
+        Ok(Case::alone(Kind::Line, label, stack, sides))
     }
 
     /// A job on each of some inputs, likewise.
@@ -175,17 +176,8 @@ impl Case {
             check.add(wanted, &output, library, plain)?;
         }
         let [library, plain] = jobs.map(|job| call_side(job, accepted.clone(), output.clone()));
-        Ok(Case {
-            stack: check.stack,
-            library,
-            plain,
-            plain_short: None,
-            before: None,
-            before_lengths: Vec::new(),
-            lengths: Vec::new(),
-            kind: Kind::Call,
-            label,
-        })
+        let stack = check.stack;
+        Ok(Case::alone(Kind::Call, label, stack, [library, plain]))
     }
 
     /// A job on a picture, likewise: on the whole of it by both programs, and by the library
@@ -222,15 +214,8 @@ impl Case {
         let mut lengths: Vec<Option<Side>> = (1..LENGTHS.len()).map(|_| None).collect();
         lengths.push(Some(small));
         Ok(Case {
-            stack,
-            library,
-            plain,
-            plain_short: None,
-            before: None,
-            before_lengths: Vec::new(),
             lengths,
-            kind: Kind::Picture,
-            label,
+            ..Case::alone(Kind::Picture, label, stack, [library, plain])
         })
     }
 
@@ -248,17 +233,7 @@ impl Case {
         let stack = stack_use::bytes(&mut || {
             library.answers();
         });
-        Ok(Case {
-            stack,
-            library,
-            plain,
-            plain_short: None,
-            before: None,
-            before_lengths: Vec::new(),
-            lengths: Vec::new(),
-            kind: Kind::Picture,
-            label,
-        })
+        Ok(Case::alone(Kind::Picture, label, stack, [library, plain]))
     }
 
     /// Beside the library before, if it is given. An error if that answers other numbers.

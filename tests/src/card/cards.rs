@@ -5,7 +5,45 @@ use reference::card::{self, Facts};
 use crate::layouts::{self, is_grouped, DEPTH, LEGACY, RANGE};
 use crate::library::Layout;
 
-use super::{Card, ACCESS, KNOWN_EDITIONS, SIZE, WRITTEN};
+use super::{Card, ACCESS, KNOWN_EDITIONS, LEAST, SIZE, WRITTEN};
+
+/// What cards state, right or wrong: byte 0, byte 1, bytes of a field, the access, and the
+/// place of a byte after it that is not zero.
+pub struct Stated<'a> {
+    pub least: &'a [u8],
+    pub written: &'a [u8],
+    pub fields: &'a [&'a [(usize, u8)]],
+    pub access: &'a [u8],
+    pub after: &'a [Option<usize>],
+}
+
+impl Stated<'_> {
+    /// The cards of facts that state each of these beside each of the others.
+    pub fn cards(&self, facts: Facts) -> Vec<Card> {
+        let mut stated = Vec::new();
+        for &least in self.least {
+            for &written in self.written {
+                for &field in self.fields {
+                    for &access in self.access {
+                        for &after in self.after {
+                            let mut card = written_at(written, facts);
+                            card[LEAST] = least;
+                            card[ACCESS] = access;
+                            for &(place, byte) in field {
+                                card[place] = byte;
+                            }
+                            if let Some(place) = after {
+                                card[place] = 1;
+                            }
+                            stated.push(card);
+                        }
+                    }
+                }
+            }
+        }
+        stated
+    }
+}
 
 /// What a layout needs an edition for.
 #[derive(Clone, Copy)]

@@ -4,7 +4,7 @@
 use crate::library::{Layout, Library};
 use crate::tally::{Flow, Tally};
 
-use super::cards;
+use super::cards::{self, Stated};
 use super::{
     compare_read, compare_read_at_all, compare_rewrite, Card, ACCESS, LEAST, ROOMS, SAMPLING, SIZE,
     WIDTH,
@@ -109,27 +109,12 @@ pub fn competing(library: &Library, tally: &mut Tally) -> Flow {
 /// The cards of a layout that have bytes 0 and 1, a field, an access and a byte after
 /// it right or wrong.
 fn stated(layout: Layout) -> Vec<Card> {
-    let mut stated = Vec::new();
-    for least in [1, 2, 3, 4, 0, 5, 255] {
-        for written in [2, 1, 0, 3, 4, 5, 255] {
-            for field in FIELDS {
-                for access in [0, 2, 3] {
-                    for after in [None, Some(ACCESS + 1), Some(SIZE - 1)] {
-                        let facts = cards::facts_in_turn(layout, 0);
-                        let mut card = cards::written_at(written, facts);
-                        card[LEAST] = least;
-                        card[ACCESS] = access;
-                        for &(place, byte) in field {
-                            card[place] = byte;
-                        }
-                        if let Some(place) = after {
-                            card[place] = 1;
-                        }
-                        stated.push(card);
-                    }
-                }
-            }
-        }
-    }
-    stated
+    let stated = Stated {
+        least: &[1, 2, 3, 4, 0, 5, 255],
+        written: &[2, 1, 0, 3, 4, 5, 255],
+        fields: &FIELDS,
+        access: &[0, 2, 3],
+        after: &[None, Some(ACCESS + 1), Some(SIZE - 1)],
+    };
+    stated.cards(cards::facts_in_turn(layout, 0))
 }

@@ -2,7 +2,8 @@
 
 use reference::card::Facts;
 
-use crate::card::{cards, Card, ACCESS, KNOWN_EDITIONS, LEAST, SIZE, WIDTH, WRITTEN};
+use crate::card::cards::{self, Stated};
+use crate::card::{Card, ACCESS, KNOWN_EDITIONS, SIZE, WIDTH, WRITTEN};
 use crate::layouts::{self, is_grouped, RANGE};
 use crate::library::Library;
 use crate::random::Random;
@@ -107,28 +108,14 @@ fn stated(facts: Facts) -> Vec<Card> {
         &[(4, 3)],
         &[(4, 2)],
     ];
-    let mut stated = Vec::new();
-    for least in [cards::least(facts.layout), 3, 0, 5] {
-        for written in [2, 1, 3, 4, 5] {
-            for field in fields {
-                for access in [2, 0, 1, 3] {
-                    for after in [None, Some(SIZE - 1)] {
-                        let mut card = cards::written_at(written, facts);
-                        card[LEAST] = least;
-                        card[ACCESS] = access;
-                        for &(place, byte) in field {
-                            card[place] = byte;
-                        }
-                        if let Some(place) = after {
-                            card[place] = 1;
-                        }
-                        stated.push(card);
-                    }
-                }
-            }
-        }
-    }
-    stated
+    let stated = Stated {
+        least: &[cards::least(facts.layout), 3, 0, 5],
+        written: &[2, 1, 3, 4, 5],
+        fields: &fields,
+        access: &[2, 0, 1, 3],
+        after: &[None, Some(SIZE - 1)],
+    };
+    stated.cards(facts)
 }
 
 /// Right lengths of points and file, and either and both of them wrong, which ways take
