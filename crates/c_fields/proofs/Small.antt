@@ -5,7 +5,8 @@ use Prim.Native.Nat.{ℕ, _≤_}
 use native.Mathlib.Omega.{arith}
 use Rattle.lists.proofs.Tests.{and-left, stop, pass}
 use Rattle.layout.specs.declared.Layout.{Layout}
-use Rattle.layout.specs.Layout.{channelKnown, validPoints}
+use Rattle.parameters.specs.Parameters.{channelKnown}
+use Rattle.layout.specs.Layout.{validPoints}
 use Rattle.layout.proofs.Facts.{points-say}
 use Rattle.field.specs.declared.field.Field.{Field}
 use Rattle.field.specs.declared.FieldBytes.{FieldBytes}

@@ -2,7 +2,8 @@
 ghost use mathlib.Core.Path.{_≡_};
 ghost use lib.ListN.{length};
 ghost use Rattle.ppm_export.specs.Export.{exportAnswer, exportOutput, exportLength};
-ghost use Rattle.ppm_import.specs.Import.{importAnswer, importCard, importPacked, importLength};
+ghost use Rattle.ppm_card.specs.Card.{importLength};
+ghost use Rattle.ppm_import.specs.Import.{importAnswer, importCard, importPacked};
 ghost use Rattle.c_pictures.specs.Numbers.{pictureNumber, bytesNumber};
 use c_types::refused;
 use picture::PictureAnswer;

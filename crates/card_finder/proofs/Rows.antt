@@ -8,7 +8,7 @@ use borrow.Author.Tests.{eq-eqb}
 use lib.ListN.{length, length-take, length-drop}
 use Rattle.lists.proofs.Tests.{pass, stop}
 use Rattle.refusal.specs.Refusal.{noItem}
-use Rattle.card_table.specs.Edition.{editionKnown}
+use Rattle.card_edition.specs.Edition.{editionKnown}
 use Rattle.card_table.specs.Table.{cardSize}
 use Rattle.stack.specs.declared.Found.{Found}
 use Rattle.stack.specs.declared.Found.the-variants.{At, Refused}

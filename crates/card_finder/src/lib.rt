@@ -5,8 +5,8 @@ ghost use lib.ListN.{length};
 ghost use Rattle.stack.specs.Finding.{located, part, placed};
 ghost use Rattle.card_finder.specs.Number.{refusalOf};
 ghost use Rattle.card_finder.specs.inner.Rows.{numberBy};
+use card_edition::edition;
 use card_table::Card;
-use card_table::edition;
 use stack::find;
 use stack::whole;
 

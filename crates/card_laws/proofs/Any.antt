@@ -10,9 +10,9 @@ use lib.Dec.{eqb, leb, ltb}
 use lib.ListN.{getD}
 use Rattle.lists.proofs.Tests.{and-left, and3}
 use Rattle.card_table.specs.declared.facts.Facts.{Facts}
-use Rattle.card_table.specs.Edition.{hasAccess, leastEdition}
-use Rattle.card_table.specs.Facts.{closed, accessKnown, factsValid}
-use Rattle.card_table.specs.Access.{accessOf}
+use Rattle.card_edition.specs.Edition.{hasAccess}
+use Rattle.card_table.specs.Facts.{leastEdition, factsValid}
+use Rattle.card_edition.specs.Access.{closed, accessKnown, accessOf}
 use Rattle.card_reader.specs.Reading.{writerOf, factsIn, frontRight}
 use Rattle.card_reader.proofs.Shown.{Accepted}
 use Rattle.card_writer.specs.Writing.{unwritable, validAt}

@@ -10,12 +10,12 @@ use lib.ListN.{length, getD, take}
 use Rattle.lists.specs.Bytes.{bytesOf, numberAt}
 use Rattle.lists.proofs.Tests.{and-left, pass, stop}
 use Rattle.card_table.specs.declared.facts.Facts.{Facts}
-use Rattle.card_table.specs.Edition.{newest, editionKnown, hasAccess, leastEdition}
-use Rattle.card_table.specs.Facts.{closed, accessKnown, factsValid, oddWidth, withAccess}
+use Rattle.card_edition.specs.Edition.{newest, editionKnown, hasAccess}
+use Rattle.card_table.specs.Facts.{leastEdition, factsValid, oddWidth, withAccess}
+use Rattle.card_edition.specs.Access.{closed, accessKnown, accessOf, accessUnknown}
 use Rattle.card_table.specs.Table.{cardSize, cardBytes}
-use Rattle.card_table.proofs.Table.{least-with, least-some}
+use Rattle.card_table.proofs.Least.{least-with, least-some}
 use Rattle.card_reader.specs.declared.CardReading.the-variants.{Shown, Refused}
-use Rattle.card_table.specs.Access.{accessOf, accessUnknown}
 use Rattle.card_reader.specs.Reading.{layoutIn, factsIn, frontRight, endWrong, readCard}
 use Rattle.card_reader.proofs.Answers.{shown}
 use Rattle.card_laws.proofs.Valid.{sizes, valid-with}

@@ -12,10 +12,10 @@ use Rattle.lists.specs.Bytes.{areBytes, bytesOf, numberAt}
 use Rattle.lists.proofs.Lists.{is-tabulate}
 use Rattle.lists.proofs.Tests.{and-left, and-right, and3}
 use Rattle.card_table.specs.declared.facts.Facts.{Facts}
-use Rattle.card_table.specs.Edition.{hasAccess, leastEdition}
-use Rattle.card_table.specs.Facts.{closed, accessKnown, factsValid}
+use Rattle.card_edition.specs.Edition.{hasAccess}
+use Rattle.card_table.specs.Facts.{leastEdition, factsValid}
+use Rattle.card_edition.specs.Access.{closed, accessKnown, accessOf, accessUnknown}
 use Rattle.card_table.specs.Table.{cardSize, cardBytes}
-use Rattle.card_table.specs.Access.{accessOf, accessUnknown}
 use Rattle.card_reader.specs.Reading.{writerOf, layoutIn, factsIn, frontRight, endWrong}
 use Rattle.card_reader.proofs.Shown.{Accepted}
 use Rattle.card_laws.proofs.Valid.{or-left}

@@ -12,9 +12,9 @@ use Rattle.lists.specs.Bytes.{numberAt}
 use Rattle.lists.proofs.Tests.{and-left, and-right}
 use Rattle.layout.specs.Layout.{grouped}
 use Rattle.layout.proofs.Facts.{odd-of-groups}
-use Rattle.card_table.specs.Edition.{newest, editionKnown, hasAccess, leastEdition}
-use Rattle.card_table.specs.Facts.{closed, accessKnown, factsValid, oddWidth}
-use Rattle.card_table.specs.Access.{accessOf, tableHolds, accessUnknown}
+use Rattle.card_edition.specs.Edition.{newest, editionKnown, hasAccess}
+use Rattle.card_table.specs.Facts.{leastEdition, factsValid, oddWidth}
+use Rattle.card_edition.specs.Access.{closed, accessKnown, accessOf, tableHolds, accessUnknown}
 use Rattle.card_table.specs.Table.{cardSize, cardBytes}
 use Rattle.card_reader.specs.declared.CardReading.{CardReading}
 use Rattle.card_reader.specs.declared.CardReading.the-variants.{Shown, Refused as NotShown}

@@ -8,8 +8,9 @@ use native.Mathlib.Omega.{arith}
 use lib.Dec.{ltb}
 use lib.ListN.{length}
 use Rattle.card_table.specs.declared.facts.Facts.{Facts}
-use Rattle.card_table.specs.Edition.{editionKnown, hasAccess, leastEdition}
-use Rattle.card_table.specs.Facts.{closed, withAccess}
+use Rattle.card_edition.specs.Edition.{editionKnown, hasAccess}
+use Rattle.card_table.specs.Facts.{leastEdition, withAccess}
+use Rattle.card_edition.specs.Access.{closed}
 use Rattle.card_table.specs.Table.{cardBytes}
 use Rattle.card_reader.specs.declared.CardReading.{CardReading}
 use Rattle.card_reader.specs.declared.CardReading.the-variants.{Shown, Refused as NotShown}

@@ -8,8 +8,9 @@ use lib.Dec.{eqb, leb, ltb}
 use Rattle.lists.proofs.Tests.{and-left, and-right, and3, pass}
 use Rattle.layout.specs.Layout.{validLayout}
 use Rattle.card_table.specs.declared.facts.Facts.{Facts}
-use Rattle.card_table.specs.Edition.{editionKnown, hasAccess, leastEdition}
-use Rattle.card_table.specs.Facts.{largestSide, sideKnown, closed, accessKnown, factsValid, oddWidth, withAccess}
+use Rattle.card_edition.specs.Edition.{editionKnown, hasAccess}
+use Rattle.card_table.specs.Facts.{leastEdition, largestSide, sideKnown, factsValid, oddWidth, withAccess}
+use Rattle.card_edition.specs.Access.{closed, accessKnown}
 use Rattle.card_table.specs.Table.{cardSize}
 use Rattle.refusal.specs.declared.Written.the-variants.{Done, Refused}
 use Rattle.card_writer.specs.Writing.{unwritable, validAt, writeAnswer}

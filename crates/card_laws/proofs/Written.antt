@@ -10,12 +10,13 @@ use Rattle.lists.specs.Bytes.{bytesOf, numberAt}
 use Rattle.lists.proofs.Tests.{pass, stop}
 use Rattle.lists.proofs.Bytes.{little-bytesOf, number-is}
 use Rattle.card_table.specs.declared.facts.Facts.{Facts}
-use Rattle.card_table.specs.Edition.{editionKnown, hasAccess, leastEdition}
-use Rattle.card_table.specs.Facts.{closed, accessKnown, oddWidth, withAccess}
+use Rattle.card_edition.specs.Edition.{editionKnown, hasAccess}
+use Rattle.card_table.specs.Facts.{leastEdition, oddWidth, withAccess}
+use Rattle.card_edition.specs.Access.{closed, accessKnown, accessOf, tableHolds, accessUnknown}
 use Rattle.card_table.specs.Table.{cardSize, cardBytes}
-use Rattle.card_table.proofs.Table.{length-card, least-with, least-some}
+use Rattle.card_table.proofs.Least.{least-with, least-some}
+use Rattle.card_table.proofs.Table.{length-card}
 use Rattle.card_reader.specs.declared.CardReading.the-variants.{Shown}
-use Rattle.card_table.specs.Access.{accessOf, tableHolds, accessUnknown}
 use Rattle.card_reader.specs.Reading.{layoutIn, factsIn, frontRight, endWrong, readCard}
 use Rattle.card_reader.proofs.Answers.{refused-7, refused-8, shown}
 use Rattle.card_laws.specs.Claims.{shows}

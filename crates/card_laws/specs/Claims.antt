@@ -9,8 +9,9 @@ use lib.ListN.{length, getD, take}
 use Rattle.lists.specs.Bytes.{areBytes}
 use Rattle.refusal.specs.Refusal.{unknownEdition, laterEdition, wrongLineOrOutput, oddCount}
 use Rattle.card_table.specs.declared.facts.Facts.{Facts}
-use Rattle.card_table.specs.Edition.{editionKnown, hasAccess, leastEdition}
-use Rattle.card_table.specs.Facts.{closed, accessKnown, factsValid, oddWidth, withAccess}
+use Rattle.card_edition.specs.Edition.{editionKnown, hasAccess}
+use Rattle.card_table.specs.Facts.{leastEdition, factsValid, oddWidth, withAccess}
+use Rattle.card_edition.specs.Access.{closed, accessKnown}
 use Rattle.card_table.specs.Table.{cardSize, cardBytes}
 use Rattle.card_reader.specs.declared.CardReading.{CardReading}
 use Rattle.card_reader.specs.declared.CardReading.the-variants.{Shown, Refused as NotShown}

@@ -9,9 +9,9 @@ use lib.ListN.{length, getD, set}
 use Rattle.lists.specs.Bytes.{numberAt}
 use Rattle.layout.specs.declared.Layout.{Layout}
 use Rattle.card_table.specs.declared.facts.Facts.{Facts}
-use Rattle.card_table.specs.Edition.{editionKnown, leastEdition}
-use Rattle.card_table.specs.Facts.{closed, oddWidth}
-use Rattle.card_table.specs.Access.{accessOf, accessUnknown}
+use Rattle.card_edition.specs.Edition.{editionKnown}
+use Rattle.card_table.specs.Facts.{leastEdition, oddWidth}
+use Rattle.card_edition.specs.Access.{closed, accessOf, accessUnknown}
 use Rattle.card_table.specs.Table.{cardBytes}
 use Rattle.card_reader.specs.declared.CardReading.the-variants.{Shown}
 use Rattle.card_reader.specs.Reading.{writerOf, endWrong, readCard}

@@ -6,11 +6,11 @@ use Prim.Native.Nat.{ℕ}
 use lib.Dec.{eqb, ltb}
 use lib.ListN.{length, getD}
 use Rattle.lists.proofs.Tests.{pass, stop}
-use Rattle.card_table.specs.Edition.{editionKnown}
+use Rattle.card_edition.specs.Edition.{editionKnown}
 use Rattle.card_table.specs.Facts.{oddWidth}
 use Rattle.card_table.specs.Table.{cardSize}
 use Rattle.card_reader.specs.declared.CardReading.the-variants.{Shown, Refused}
-use Rattle.card_table.specs.Access.{accessUnknown}
+use Rattle.card_edition.specs.Access.{accessUnknown}
 use Rattle.card_reader.specs.Reading.{writerOf, factsIn, frontRight, endWrong, readCard}
 
 module _ (b : List ℕ) (e : ℕ) where

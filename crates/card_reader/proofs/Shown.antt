@@ -9,12 +9,12 @@ use lib.Dec.{eqb, ltb}
 use lib.ListN.{length, getD}
 use Rattle.lists.specs.Bytes.{numberAt}
 use Rattle.card_table.specs.declared.facts.Facts.{Facts}
-use Rattle.card_table.specs.Edition.{editionKnown}
+use Rattle.card_edition.specs.Edition.{editionKnown}
 use Rattle.card_table.specs.Facts.{oddWidth}
 use Rattle.card_table.specs.Table.{cardSize}
 use Rattle.card_reader.specs.declared.CardReading.{CardReading}
 use Rattle.card_reader.specs.declared.CardReading.the-variants.{Shown, Refused}
-use Rattle.card_table.specs.Access.{accessUnknown}
+use Rattle.card_edition.specs.Access.{accessUnknown}
 use Rattle.card_reader.specs.Reading.{writerOf, factsIn, frontRight, endWrong, readCard, showsItem}
 
 -- a row that did not apply

@@ -10,9 +10,9 @@ use Rattle.refusal.specs.Refusal.{wrongLength, unknownEdition, laterEdition, ou
 use Rattle.card_table.specs.declared.facts.Facts.{Facts}
 use Rattle.card_reader.specs.declared.CardReading.{CardReading}
 use Rattle.card_reader.specs.declared.CardReading.the-variants.{Shown, Refused}
-use Rattle.card_table.specs.Edition.{editionKnown, hasAccess, leastEdition}
-use Rattle.card_table.specs.Facts.{factsValid, oddWidth}
-use Rattle.card_table.specs.Access.{accessOf, tableHolds, accessUnknown}
+use Rattle.card_edition.specs.Edition.{editionKnown, hasAccess}
+use Rattle.card_table.specs.Facts.{leastEdition, factsValid, oddWidth}
+use Rattle.card_edition.specs.Access.{accessOf, tableHolds, accessUnknown}
 use Rattle.card_table.specs.Table.{cardSize}
 
 -- ---- what the bytes hold

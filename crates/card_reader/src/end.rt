@@ -5,8 +5,8 @@ ghost use Rattle.card_table.specs.Table.{cardSize};
 ghost use Rattle.card_reader.specs.Reading.{endWrong};
 use crate::number::number7;
 use crate::number::number8;
-use card_table::access::table_holds;
-use card_table::edition::has_access;
+use card_edition::access::table_holds;
+use card_edition::edition::has_access;
 
 // Whether bytes 24 to 31 are not zero where they must be.
 pub(crate) fn end_wrong(bytes: &[u8], edition: u8) -> bool

@@ -5,9 +5,8 @@ ghost use Rattle.card_table.specs.Table.{cardSize};
 ghost use Rattle.card_reader.specs.Reading.{layoutIn, factsIn, frontRight};
 use crate::number::number2;
 use crate::number::number8;
+use card_edition::access;
 use card_table::Facts;
-use card_table::access;
-use card_table::edition::least;
 use layout::Layout;
 
 // The layout that the bytes hold.
@@ -52,5 +51,5 @@ pub(crate) fn front_right(bytes: &[u8], facts: Facts) -> bool
     requires { ⌜ length (now bytes) ≡ cardSize ⌝ }
     ensures { λ r. ⌜ r ≡ frontRight (now (bytes .entry)) facts ⌝ }
 {
-    (bytes[0] == least(facts)) & (bytes[0] <= bytes[1]) & facts.valid() & (bytes[11] == 0)
+    (bytes[0] == facts.least_edition()) & (bytes[0] <= bytes[1]) & facts.valid() & (bytes[11] == 0)
 }

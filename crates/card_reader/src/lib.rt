@@ -1,10 +1,10 @@
 // A card read: 32 bytes that hold the facts of an item (document 01, "Card").
 ghost use mathlib.Core.Path.{_≡_};
 ghost use Rattle.card_reader.specs.Reading.{readCard, showsItem};
+use card_edition::access;
+use card_edition::edition;
 use card_table::Card;
 use card_table::Facts;
-use card_table::access;
-use card_table::edition;
 
 mod end;
 mod front;

@@ -1,4 +1,2 @@
-pub mod Edition
 pub mod Facts
-pub mod Access
 pub mod Table

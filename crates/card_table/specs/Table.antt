@@ -4,7 +4,7 @@ use mathlib.Core.List.{List, _∷_, _++_}
 use lib.ListN.{replicate}
 use Rattle.lists.specs.Bytes.{bytesOf}
 use Rattle.card_table.specs.declared.facts.Facts.{Facts}
-use Rattle.card_table.specs.Edition.{leastEdition}
+use Rattle.card_table.specs.Facts.{leastEdition}
 
 -- the bytes of a card
 abbrev pub cardSize : ℕ

@@ -1,7 +1,6 @@
 // The 32 bytes of a card.
 ghost use mathlib.Core.Path.{_≡_};
 ghost use Rattle.card_table.specs.Table.{cardBytes};
-use crate::edition;
 use crate::facts::Facts;
 
 // A card as it is written.
@@ -25,7 +24,7 @@ impl Card {
         ensures answer { λ r. ⌜ r .bytes ≡ cardBytes edition facts ⌝ }
     {
         let layout = facts.layout;
-        let least = edition::least(facts);
+        let least = facts.least_edition();
         let w = facts.width;
         let h = facts.height;
         let i0 = facts.item;

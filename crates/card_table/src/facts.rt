@@ -1,8 +1,8 @@
 // The facts that a card holds.
 ghost use mathlib.Core.Path.{_≡_};
-ghost use Rattle.card_table.specs.Facts.{sideKnown, factsValid, oddWidth};
-use crate::access;
+ghost use Rattle.card_table.specs.Facts.{sideKnown, factsValid, oddWidth, leastEdition};
 use crate::card::Card;
+use card_edition::access;
 use layout::Layout;
 
 // Any numbers make facts; `valid` says whether all are the paper's.
@@ -42,5 +42,24 @@ impl Facts {
     {
         let layout = self.layout;
         layout.grouped() & (self.width % 2 == 1)
+    }
+
+    // The least edition that can read a card of these facts: byte 0. Groups need edition 4, range 3 needs 3, and
+    // 12 bits need 2.
+    pub fn least_edition(self) -> u8
+        ensures { λ r. ⌜ r ≡ leastEdition self ⌝ }
+    {
+        let layout = self.layout;
+        let range = layout.range;
+        let depth = layout.depth;
+        if layout.grouped() {
+            4
+        } else if range == 3 {
+            3
+        } else if depth == 12 {
+            2
+        } else {
+            1
+        }
     }
 }

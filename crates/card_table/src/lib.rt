@@ -1,7 +1,5 @@
-// A card's facts, its editions and its 32 bytes (document 01, "Card").
-pub mod access;
+// A card's facts, the edition that they need, and its 32 bytes (document 01, "Card").
 mod card;
-pub mod edition;
 mod facts;
 
 pub use card::Card;

@@ -8,7 +8,7 @@ use lib.ListN.{length}
 use Rattle.lists.specs.Lists.{newOrKept}
 use Rattle.lists.proofs.Tests.{pass, stop}
 use Rattle.card_table.specs.declared.facts.Facts.{Facts}
-use Rattle.card_table.specs.Edition.{editionKnown}
+use Rattle.card_edition.specs.Edition.{editionKnown}
 use Rattle.card_table.specs.Facts.{factsValid, oddWidth}
 use Rattle.card_table.specs.Table.{cardSize, cardBytes}
 use Rattle.refusal.specs.declared.Written.{Written}

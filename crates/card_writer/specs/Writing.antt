@@ -10,8 +10,9 @@ use Rattle.card_table.specs.declared.facts.Facts.{Facts}
 use Rattle.refusal.specs.declared.Written.{Written}
 use Rattle.refusal.specs.declared.Written.the-variants.{Done, Refused}
 use Rattle.refusal.specs.Written.{accepted}
-use Rattle.card_table.specs.Edition.{editionKnown, hasAccess, leastEdition}
-use Rattle.card_table.specs.Facts.{closed, factsValid, oddWidth}
+use Rattle.card_edition.specs.Edition.{editionKnown, hasAccess}
+use Rattle.card_table.specs.Facts.{leastEdition, factsValid, oddWidth}
+use Rattle.card_edition.specs.Access.{closed}
 use Rattle.card_table.specs.Table.{cardSize, cardBytes}
 
 -- the edition lacks the layout (editions 1 to 3: groups; 1 and 2: range 3; 1: 12 bits) or the access (edition 1: any but closed)

@@ -2,10 +2,10 @@
 ghost use mathlib.Core.Path.{_≡_};
 ghost use lib.ListN.{length};
 ghost use Rattle.card_writer.specs.Writing.{unwritable, writeAnswer, writeOutput};
+use card_edition::access;
+use card_edition::edition;
 use card_table::Card;
 use card_table::Facts;
-use card_table::access;
-use card_table::edition;
 use refusal::Written;
 
 // Whether an edition has no place for the layout or the access.
@@ -13,7 +13,7 @@ fn unwritable(edition: u8, facts: Facts) -> bool
     ensures { λ r. ⌜ r ≡ unwritable edition facts ⌝ }
 {
     let access = facts.access;
-    (edition < edition::least(facts))
+    (edition < facts.least_edition())
         | (!edition::has_access(edition) & !(access == access::CLOSED))
 }
 

@@ -10,15 +10,15 @@ use lib.ListN.{length, getD}
 use Rattle.lists.specs.Lists.{every, newOrKept}
 use Rattle.lists.proofs.Every.{every-at, every-of}
 use Rattle.fractions.specs.declared.Clamped.{Clamped}
-use Rattle.layout.specs.declared.range.Range.{Range}
-use Rattle.layout.specs.declared.kind.Kind.the-variants.{Brightness, Difference}
-use Rattle.layout.specs.Layout.{primariesKnown, depthKnown, rangeOf, topOf}
-use Rattle.layout.proofs.Depths.{steps, known-between}
+use Rattle.parameters.specs.declared.range.Range.{Range}
+use Rattle.parameters.specs.declared.kind.Kind.the-variants.{Brightness, Difference}
+use Rattle.parameters.specs.Parameters.{primariesKnown, depthKnown, rangeOf, topOf}
+use Rattle.parameters.proofs.Depths.{steps, known-between}
 use Rattle.line.specs.declared.ClampedAnswer.{ClampedAnswer}
 use Rattle.line.specs.Line.{codesWithin}
 use Rattle.line.specs.Answer.{mostPoints, clampedAccepted}
-use Rattle.scales.specs.Scale.{scaleOf}
-use Rattle.scales.proofs.Scales.{ends-le}
+use Rattle.scale.specs.Scale.{scaleOf}
+use Rattle.scale.proofs.Scales.{ends-le}
 use Rattle.quantization.specs.Code.{codeOfValue}
 use Rattle.quantization_laws.proofs.Printed.{ends-printed}
 use Rattle.color_equations.specs.declared.weights.Weights.{Weights}

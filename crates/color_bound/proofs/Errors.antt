@@ -7,8 +7,8 @@ use native.Mathlib.Omega.{arith}
 use lib.Dec.{T, ltb, ltb→lt, nltb→le}
 use Rattle.fractions.specs.Fraction.{Fraction, bounded}
 use Rattle.fractions.proofs.Same.{Is, is-plain, is-also, is-times}
-use Rattle.scales.specs.declared.scale.Scale.{Scale}
-use Rattle.scales.specs.Value.{fractionOf}
+use Rattle.scale.specs.declared.Scale.{Scale}
+use Rattle.scale.specs.Value.{fractionOf}
 use Rattle.quantization.specs.Code.{codeOfValue}
 use Rattle.quantization.proofs.Codes.{code-is}
 use Rattle.color_equations.specs.declared.weights.Weights.{Weights}

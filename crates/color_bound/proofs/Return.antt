@@ -7,8 +7,8 @@ use native.Mathlib.Omega.{arith}
 use borrow.Author.Tests.{ltb-true}
 use Rattle.fractions.specs.Fraction.{Fraction, Same}
 use Rattle.fractions.proofs.Same.{Is, is-of, is-also, is-times, is-agree}
-use Rattle.scales.specs.declared.scale.Scale.{Scale}
-use Rattle.scales.specs.Value.{fractionOf}
+use Rattle.scale.specs.declared.Scale.{Scale}
+use Rattle.scale.specs.Value.{fractionOf}
 use Rattle.quantization.specs.Code.{codeOfValue}
 use Rattle.color_equations.specs.declared.weights.Weights.{Weights}
 use Rattle.color_equations.specs.Weights.{greenOf}

@@ -7,10 +7,10 @@ use native.Mathlib.Omega.{arith}
 use borrow.Author.Tests.{eqb-true, leb-true}
 use lib.Dec.{eqb, leb}
 use Rattle.lists.proofs.Tests.{and-left, and-right, or-cases}
-use Rattle.layout.specs.declared.kind.Kind.the-variants.{Brightness, Difference}
-use Rattle.layout.specs.Layout.{rangeKnown, rangeOf, stepOf, topOf}
-use Rattle.layout.proofs.Depths.{Powers, powers}
-use Rattle.scales.specs.Scale.{scaleOf}
+use Rattle.parameters.specs.declared.kind.Kind.the-variants.{Brightness, Difference}
+use Rattle.parameters.specs.Parameters.{rangeKnown, rangeOf, stepOf, topOf}
+use Rattle.parameters.proofs.Depths.{Powers, powers}
+use Rattle.scale.specs.Scale.{scaleOf}
 use Rattle.color_bound.specs.Bound.{covered, nominal, allowed}
 use Rattle.color_bound.proofs.Return.{Fit, Inside}
 

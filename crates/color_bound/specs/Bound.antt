@@ -2,8 +2,8 @@
 use Prim.Native.Nat.{ℕ, _+_, _-_, _*_, _≤_}
 use mathlib.Core.Bool.{Bool, cond, _&&_, _||_}
 use lib.Dec.{eqb, leb, ltb}
-use Rattle.layout.specs.declared.range.Range.the-variants.{Narrow, Full}
-use Rattle.layout.specs.Layout.{rangeNumber, rangeOf, stepOf, topOf}
+use Rattle.parameters.specs.declared.range.Range.the-variants.{Narrow, Full}
+use Rattle.parameters.specs.Parameters.{rangeNumber, rangeOf, stepOf, topOf}
 use Rattle.color_equations.specs.declared.weights.Weights.{Weights}
 use Rattle.color_equations.specs.Weights.{greenOf}
 use Rattle.color_equations.specs.Conversion.{ycbcrOf, rgbOf}

@@ -5,7 +5,7 @@ use mathlib.Core.Path.{_≡_}
 use mathlib.Core.List.{List, [], _∷_}
 use lib.ListN.{length, getD}
 use Rattle.lists.specs.Lists.{every}
-use Rattle.layout.specs.Layout.{primariesKnown, depthKnown}
+use Rattle.parameters.specs.Parameters.{primariesKnown, depthKnown}
 use Rattle.line.specs.declared.ClampedAnswer.{ClampedAnswer}
 use Rattle.line.specs.declared.ClampedAnswer.the-variants.{Points}
 use Rattle.line.specs.Answer.{mostPoints}

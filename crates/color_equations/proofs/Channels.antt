@@ -1,10 +1,10 @@
 -- What comes out of a conversion, channel by channel: each the code of its equation over the exact fractions, with no rounding before. Assumes nothing.
 use mathlib.Core.Path.{_≡_}
 use Prim.Native.Nat.{ℕ}
-use Rattle.layout.specs.declared.range.Range.{Range}
-use Rattle.layout.specs.declared.kind.Kind.the-variants.{Brightness, Difference}
+use Rattle.parameters.specs.declared.range.Range.{Range}
+use Rattle.parameters.specs.declared.kind.Kind.the-variants.{Brightness, Difference}
 use Rattle.fractions.specs.declared.Clamped.{Clamped}
-use Rattle.scales.specs.Scale.{scaleOf}
+use Rattle.scale.specs.Scale.{scaleOf}
 use Rattle.quantization.specs.Code.{codeOfValue}
 use Rattle.color_equations.specs.declared.weights.Weights.{Weights}
 use Rattle.color_equations.specs.Equations.{lumaOf, chromaOf, primaryOf, greenFrom}

@@ -3,7 +3,7 @@ use mathlib.Core.Path.{_≡_, refl}
 use mathlib.Core.Bool.{Bool, true, false, cond}
 use Prim.Native.Nat.{ℕ}
 use native.Mathlib.Omega.{arith}
-use Rattle.layout.specs.Layout.{primariesKnown}
+use Rattle.parameters.specs.Parameters.{primariesKnown}
 use Rattle.color_equations.specs.declared.weights.Weights.{Weights}
 use Rattle.color_equations.specs.declared.weights.KnownWeights.the-variants.{Known, Unknown}
 use Rattle.color_equations.specs.Weights.{weightsOf}

@@ -39,7 +39,7 @@ impl Weights {
     pub fn of(primaries: u8) -> KnownWeights
         ensures { λ r. ⌜ r ≡ knownWeights primaries ⌝ }
     {
-        if !layout::primaries_known(primaries) {
+        if !parameters::primaries_known(primaries) {
             return KnownWeights::Unknown;
         }
         KnownWeights::Known(ROWS[(primaries - 1) as usize])

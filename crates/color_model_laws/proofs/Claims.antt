@@ -14,13 +14,13 @@ use Rattle.lists.proofs.Counts.{count-same}
 use Rattle.refusal.specs.Refusal.{outside, wrongLineOrOutput, codeTooHigh}
 use Rattle.fractions.specs.declared.Clamped.{Clamped}
 use Rattle.fractions.specs.Fraction.{Fraction, isCut, clamped}
-use Rattle.layout.specs.declared.range.Range.{Range}
-use Rattle.layout.specs.declared.kind.Kind.{Kind}
-use Rattle.layout.specs.declared.kind.Kind.the-variants.{Brightness, Difference}
-use Rattle.layout.specs.Layout.{primariesKnown, depthKnown, rangeKnown, rangeOf}
-use Rattle.layout.proofs.Depths.{steps, known-between}
-use Rattle.scales.specs.Scale.{scaleOf}
-use Rattle.scales.proofs.Scales.{ends}
+use Rattle.parameters.specs.declared.range.Range.{Range}
+use Rattle.parameters.specs.declared.kind.Kind.{Kind}
+use Rattle.parameters.specs.declared.kind.Kind.the-variants.{Brightness, Difference}
+use Rattle.parameters.specs.Parameters.{primariesKnown, depthKnown, rangeKnown, rangeOf}
+use Rattle.parameters.proofs.Depths.{steps, known-between}
+use Rattle.scale.specs.Scale.{scaleOf}
+use Rattle.scale.proofs.Scales.{ends}
 use Rattle.quantization.specs.Code.{codeOfValue}
 use Rattle.quantization_laws.specs.Printed.{printedUnclamped, printedLow, printedHigh}
 use Rattle.quantization_laws.proofs.Printed.{Kept, unclamped-printed, ends-printed, value-kept}

@@ -7,8 +7,8 @@ use mathlib.Core.Logic.{_⊎_}
 use lib.ListN.{length}
 use Rattle.fractions.specs.declared.Clamped.{Clamped}
 use Rattle.fractions.specs.Fraction.{Fraction, Same, clamped}
-use Rattle.layout.specs.declared.range.Range.{Range}
-use Rattle.layout.specs.Layout.{primariesKnown, depthKnown, rangeOf}
+use Rattle.parameters.specs.declared.range.Range.{Range}
+use Rattle.parameters.specs.Parameters.{primariesKnown, depthKnown, rangeOf}
 use Rattle.quantization_laws.specs.Printed.{printedLow, printedHigh, WithinEnds}
 use Rattle.line.specs.declared.ClampedAnswer.the-variants.{Points}
 use Rattle.line.specs.Line.{codesWithin}

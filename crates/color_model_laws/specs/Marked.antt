@@ -4,14 +4,14 @@ use mathlib.Core.Bool.{true, false}
 use mathlib.Core.List.{List, [], _∷_}
 use lib.IntN.{pos, negsuc}
 use lib.Ieee.{Float, inf, fin}
-use Rattle.layout.specs.declared.range.Range.{Range}
-use Rattle.layout.specs.declared.range.Range.the-variants.{Narrow, Full, LegacyFull}
-use Rattle.layout.specs.declared.kind.Kind.{Kind}
-use Rattle.layout.specs.declared.kind.Kind.the-variants.{Brightness, Difference}
+use Rattle.parameters.specs.declared.range.Range.{Range}
+use Rattle.parameters.specs.declared.range.Range.the-variants.{Narrow, Full, LegacyFull}
+use Rattle.parameters.specs.declared.kind.Kind.{Kind}
+use Rattle.parameters.specs.declared.kind.Kind.the-variants.{Brightness, Difference}
 use Rattle.fractions.specs.declared.Clamped.{Clamped}
 use Rattle.quantization.specs.declared.code.Coded.{Coded}
 use Rattle.quantization.specs.declared.code.Coded.the-variants.{Code}
-use Rattle.scales.specs.Scale.{scaleOf}
+use Rattle.scale.specs.Scale.{scaleOf}
 use Rattle.quantization.specs.Code.{codeOfValue, codeOf}
 use Rattle.color_equations.specs.Weights.{weightsOf}
 use Rattle.color_equations.specs.Equations.{lumaOf, chromaOf, primaryOf, greenFrom}

@@ -1,5 +1,3 @@
 pub mod Sizes
-pub mod Table
-pub mod Known
 mod Ranges
 mod Differences

@@ -6,22 +6,24 @@ use Prim.Native.Nat.{ℕ}
 use native.Mathlib.Omega.{arith}
 use denote.Enum.Declared.{tagOf}
 use types.Run.{OneOf}
-use Rattle.layout.specs.declared.range.Range.{Range}
-use Rattle.layout.specs.declared.range.Range.the-variants.{Narrow, Full, LegacyFull}
-use Rattle.layout.specs.declared.kind.Kind.the-variants.{Brightness}
-use Rattle.layout.specs.Layout.{bitsOf}
-use Rattle.layout.proofs.Depths.{Steps}
-use Rattle.layout.proofs.range.Range.{the-type}
-use Rattle.scales.specs.declared.scale.Scale.{Scale}
-use Rattle.scales.specs.Scale.{scaleOf}
-use Rattle.color_rows.specs.declared.green.Ratio.{Ratio}
+use Rattle.parameters.specs.declared.range.Range.{Range}
+use Rattle.parameters.specs.declared.range.Range.the-variants.{Narrow, Full, LegacyFull}
+use Rattle.parameters.specs.declared.kind.Kind.the-variants.{Brightness}
+use Rattle.parameters.specs.Parameters.{bitsOf}
+use Rattle.parameters.proofs.Depths.{Steps}
+use Rattle.parameters.proofs.range.Range.{the-type}
+use Rattle.scale.specs.declared.Scale.{Scale}
+use Rattle.scale.specs.Scale.{scaleOf}
+use Rattle.color_numbers.specs.declared.green.Ratio.{Ratio}
+use Rattle.color_numbers.specs.declared.Numbers.{Numbers}
+use Rattle.color_numbers.specs.declared.spread.Spread.{Spread}
+use Rattle.color_numbers.specs.inner.Green.{ratioOf}
+use Rattle.color_numbers.specs.inner.Spread.{spreadOf}
+use Rattle.color_numbers.specs.inner.Sizes.{FullSpread}
+use Rattle.color_numbers.proofs.Spreads.{full-spread, legacy-spread}
 use Rattle.color_rows.specs.declared.linear.Value.{Value}
-use Rattle.color_rows.specs.declared.numbers.Numbers.{Numbers}
-use Rattle.color_rows.specs.declared.rgb.Spread.{Spread}
-use Rattle.color_rows.specs.inner.Green.{ratioOf, narrowGreenValue}
-use Rattle.color_rows.specs.inner.Rows.{codedOf, codeRow, spreadOf, greenValue, plainGreenRow, greenRowFrom, greenRow}
-use Rattle.color_rows.specs.inner.Sizes.{FullSpread}
-use Rattle.color_rows.proofs.Sizes.{full-spread, legacy-spread}
+use Rattle.color_rows.specs.inner.Green.{narrowGreenValue}
+use Rattle.color_rows.specs.inner.Rows.{codedOf, codeRow, greenValue, plainGreenRow, greenRowFrom, greenRow}
 
 -- what the arm of both full ranges is told of the range: its number among the enum's variants
 abbrev pub FullArm : Range → Type 0

@@ -6,28 +6,33 @@ use native.Mathlib.Omega.{arith}
 use lib.Dec.{T, lit≤, lit<, le→leb}
 use lib.IntN.{pos}
 use lib.Ieee.{binary64, inFloat}
-use Rattle.layout.specs.declared.range.Range.{Range}
-use Rattle.layout.specs.declared.range.Range.the-variants.{Narrow, Full, LegacyFull}
-use Rattle.layout.specs.declared.depth.Depth.{Depth}
-use Rattle.layout.specs.declared.depth.Depth.the-variants.{Eight, Ten, Twelve}
-use Rattle.layout.specs.declared.kind.Kind.{Kind}
-use Rattle.layout.specs.declared.kind.Kind.the-variants.{Brightness, Difference}
-use Rattle.layout.specs.Layout.{bitsOf, topOf}
-use Rattle.layout.proofs.Depths.{Steps, depth-steps}
-use Rattle.scales.specs.declared.scale.Scale.{Scale}
-use Rattle.scales.specs.Scale.{scaleOf}
-use Rattle.scales.proofs.Scales.{fine}
+use Rattle.parameters.specs.declared.range.Range.{Range}
+use Rattle.parameters.specs.declared.range.Range.the-variants.{Narrow, Full, LegacyFull}
+use Rattle.parameters.specs.declared.depth.Depth.{Depth}
+use Rattle.parameters.specs.declared.depth.Depth.the-variants.{Eight, Ten, Twelve}
+use Rattle.parameters.specs.declared.kind.Kind.{Kind}
+use Rattle.parameters.specs.declared.kind.Kind.the-variants.{Brightness, Difference}
+use Rattle.parameters.specs.Parameters.{bitsOf, topOf}
+use Rattle.parameters.proofs.Depths.{Steps, depth-steps}
+use Rattle.scale.specs.declared.Scale.{Scale}
+use Rattle.scale.specs.Scale.{scaleOf}
+use Rattle.float_scale.proofs.Fine.{fine}
 use Rattle.color_equations.specs.declared.weights.Weights.{Weights}
 use Rattle.color_equations.specs.Weights.{greenOf}
-use Rattle.color_rows.specs.declared.green.GreenTerms.{GreenTerms}
-use Rattle.color_rows.specs.declared.green.Ratio.{Ratio}
+use Rattle.color_numbers.specs.declared.green.GreenTerms.{GreenTerms}
+use Rattle.color_numbers.specs.declared.green.Ratio.{Ratio}
+use Rattle.color_numbers.specs.declared.spread.Spread.{Spread}
+use Rattle.color_numbers.specs.declared.Numbers.{Numbers}
+use Rattle.color_numbers.specs.inner.Green.{ratioOf}
+use Rattle.color_numbers.specs.inner.Spread.{spreadOf}
+use Rattle.color_numbers.specs.inner.Sizes.{SmallWeights, SmallGreen, SmallNumbers, SmallSpread, FullSpread}
+use Rattle.color_numbers.proofs.Table.{ratio-small}
+use Rattle.color_numbers.proofs.Spreads.{full-spread, legacy-spread, spread-small}
 use Rattle.color_rows.specs.declared.linear.Value.{Value}
 use Rattle.color_rows.specs.declared.linear.Row.{Row}
-use Rattle.color_rows.specs.declared.numbers.Numbers.{Numbers}
-use Rattle.color_rows.specs.declared.rgb.Spread.{Spread}
-use Rattle.color_rows.specs.inner.Green.{ratioOf, narrowGreenValue}
-use Rattle.color_rows.specs.inner.Rows.{codedOf, codeRow, lumaValue, cbValue, crValue, fullSpread, spreadOf, redValue, blueValue, greenValue, plainGreenRow, greenRowFrom, greenRow}
-use Rattle.color_rows.specs.inner.Sizes.{Small, Fits, SmallScale, SmallWeights, SmallGreen, SmallNumbers, SmallSpread, FullSpread, SmallRatio}
+use Rattle.color_rows.specs.inner.Green.{narrowGreenValue}
+use Rattle.color_rows.specs.inner.Rows.{codedOf, codeRow, lumaValue, cbValue, crValue, redValue, blueValue, greenValue, plainGreenRow, greenRowFrom, greenRow}
+use Rattle.color_rows.specs.inner.Sizes.{Small, Fits, SmallScale}
 
 -- a whole number that an f64 holds
 pub held : (k : ℕ) → k ≤ 2 ^ 53 → T (inFloat binary64 (pos k))
@@ -101,31 +106,6 @@ difference-small r n s = by-base r Difference n 2048 s (difference-base r n s)
 
 pub brightness-small : (r : Range) (n : ℕ) → Steps n → SmallScale (scaleOf r n Brightness) 256
 brightness-small r n s = by-base r Brightness n 256 s (brightness-base r n s)
-
--- of a full range, by its span
-spread-by : (span n : ℕ) → Steps n → 0 < span → span ≤ 4096 → FullSpread (fullSpread span (2 ^ (n - 1)))
-spread-by span n s some most = record { luma = lit≤ tt; chroma = lit≤ tt; some = some; whole = most; black = omega arith; neutral = omega (arith, s) }
-
-pub full-spread : (n : ℕ) → Steps n → FullSpread (spreadOf Full n)
-full-spread n s = spread-by (topOf n) n s (omega (arith, s)) (omega (arith, s))
-
-pub legacy-spread : (n : ℕ) → Steps n → FullSpread (spreadOf LegacyFull n)
-legacy-spread n s = spread-by (2 ^ n) n s (omega (arith, s)) (omega (arith, s))
-
-full-small : (s : Spread) → FullSpread s → SmallSpread s
-full-small s h = record { luma = omega (arith, h .luma); chroma = omega (arith, h .chroma); some = h .some; whole = omega (arith, h .whole); black = omega (arith, h .black); neutral = h .neutral }
-
-pub spread-small : (r : Range) (n : ℕ) → Steps n → SmallSpread (spreadOf r n)
-spread-small Narrow n s = record { luma = lit≤ tt; chroma = lit≤ tt; some = omega (arith, s); whole = omega (arith, s); black = omega (arith, s); neutral = omega (arith, s) }
-spread-small Full n s = full-small (spreadOf Full n) (full-spread n s)
-spread-small LegacyFull n s = full-small (spreadOf LegacyFull n) (legacy-spread n s)
-
-pub ratio-small : (r : Range) (d : Depth) → SmallRatio (ratioOf r d)
-ratio-small Narrow d = record { some = lit< tt; whole = lit≤ tt }
-ratio-small Full Eight = record { some = lit< tt; whole = lit≤ tt }
-ratio-small Full Ten = record { some = lit< tt; whole = lit≤ tt }
-ratio-small Full Twelve = record { some = lit< tt; whole = lit≤ tt }
-ratio-small LegacyFull d = record { some = lit< tt; whole = lit≤ tt }
 
 pub top-most : (n : ℕ) → Steps n → topOf n ≤ 4095
 top-most n s = omega (arith, s)

@@ -1,13 +1,12 @@
 // The rows of a conversion between R'G'B' and Y'CbCr, worked out once for a line.
 ghost use mathlib.Core.Path.{_≡_};
 ghost use Rattle.color_rows.specs.inner.Known.{knownToYcbcr, knownToRgb};
-use crate::numbers::KnownNumbers;
-use crate::numbers::numbers_of;
 use color_line::FloatRows;
+use color_numbers::KnownNumbers;
+use color_numbers::numbers_of;
 
 mod green;
 mod linear;
-mod numbers;
 mod rgb;
 mod ycbcr;
 

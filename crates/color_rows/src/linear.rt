@@ -5,7 +5,7 @@ ghost use Rattle.color_rows.specs.inner.Rows.{codedOf, differenceOf, flo
 ghost use Rattle.color_rows.specs.inner.Sizes.{Small};
 use color_line::FloatRow;
 use floats::Ends;
-use scales::Scale;
+use scale::Scale;
 
 // plus0 x + plus1 y + plus2 z + plus - (minus0 x + minus1 y + minus2 z + minus).
 pub struct Linear {
@@ -39,7 +39,7 @@ fn coded(value: Value, span: u64, to: Scale) -> Row
     ensures { λ r. ⌜ r ≡ codedOf value span to ⌝ }
 {
     let sum = value.sum;
-    let ends = to.ends();
+    let ends = float_scale::ends(to);
     Row {
         sum: Linear {
             plus0: span * sum.plus0,

@@ -1,64 +1,25 @@
 // Y'CbCr to R'G'B': R', G' and B', linear in the codes of Y', Cb, Cr.
 ghost use mathlib.Core.Path.{_≡_};
-ghost use Rattle.layout.specs.declared.kind.Kind.the-variants.{Brightness};
-ghost use Rattle.layout.specs.Layout.{bitsOf};
-ghost use Rattle.scales.specs.Scale.{scaleOf};
-ghost use Rattle.color_rows.specs.inner.Rows.{floatsOf, fullSpread, spreadOf, redValue, blueValue, greenValue, greenRow, rgbRows};
-ghost use Rattle.color_rows.specs.inner.Sizes.{SmallWeights, SmallSpread, FullSpread, SmallNumbers};
+ghost use Rattle.parameters.specs.declared.kind.Kind.the-variants.{Brightness};
+ghost use Rattle.parameters.specs.Parameters.{bitsOf};
+ghost use Rattle.scale.specs.Scale.{scaleOf};
+ghost use Rattle.color_numbers.specs.inner.Spread.{spreadOf};
+ghost use Rattle.color_numbers.specs.inner.Sizes.{SmallWeights, SmallNumbers, SmallSpread, FullSpread};
+ghost use Rattle.color_rows.specs.inner.Rows.{floatsOf, redValue, blueValue, greenValue, greenRow, rgbRows};
 use crate::green::green_of_narrow;
-use crate::green::ratio_of;
 use crate::linear::Linear;
 use crate::linear::Value;
 use crate::linear::float_row;
-use crate::numbers::Numbers;
 use color_equations::Weights;
 use color_line::FloatRow;
 use color_line::FloatRows;
-use layout::Depth;
-use layout::Kind;
-use layout::Range;
-use scales::Scale;
-
-// The scales of Y' and of Cb and Cr over one divisor: Y' is luma (y - black) / whole, and Cb is chroma (cb - neutral) / whole.
-pub struct Spread {
-    pub luma: u64,
-    pub chroma: u64,
-    pub whole: u64,
-    pub black: u64,
-    pub neutral: u64,
-}
-
-// In a full range both scales have one span, and black is 0.
-fn full_spread(span: u64, neutral: u64) -> Spread
-    ensures { λ r. ⌜ r ≡ fullSpread span neutral ⌝ }
-{
-    Spread {
-        luma: 1,
-        chroma: 1,
-        whole: span,
-        black: 0,
-        neutral,
-    }
-}
-
-fn spread_of(range: Range, depth: Depth) -> Spread
-    ensures { λ r. ⌜ r ≡ spreadOf range (bitsOf depth) ⌝ }
-{
-    let s = depth.step() as u64;
-    let m = depth.top() as u64;
-    let whole = m + 1;
-    match range {
-        Range::Narrow => Spread {
-            luma: 224,
-            chroma: 219,
-            whole: 49056 * s,
-            black: 16 * s,
-            neutral: 128 * s,
-        },
-        Range::Full => full_spread(m, whole / 2),
-        Range::LegacyFull => full_spread(whole, whole / 2),
-    }
-}
+use color_numbers::Numbers;
+use color_numbers::Spread;
+use color_numbers::ratio_of;
+use color_numbers::spread_of;
+use parameters::Kind;
+use parameters::Range;
+use scale::Scale;
 
 // R' = Y' + 2 (1 - KR) Cr.
 fn red(w: Weights, from: Spread) -> Value

@@ -1,15 +1,15 @@
 // R'G'B' to Y'CbCr: Y', Cb and Cr, linear in the codes of R', G', B'.
 ghost use mathlib.Core.Path.{_≡_};
+ghost use Rattle.color_numbers.specs.inner.Sizes.{SmallWeights, SmallNumbers};
 ghost use Rattle.color_rows.specs.inner.Rows.{lumaValue, cbValue, crValue, ycbcrRows};
-ghost use Rattle.color_rows.specs.inner.Sizes.{SmallWeights, SmallNumbers};
 use crate::linear::Linear;
 use crate::linear::Value;
 use crate::linear::float_row;
-use crate::numbers::Numbers;
 use color_equations::Weights;
 use color_line::FloatRows;
-use layout::Kind;
-use scales::Scale;
+use color_numbers::Numbers;
+use parameters::Kind;
+use scale::Scale;
 
 // Y' = KR R' + KG G' + KB B', with KG = 1 - KR - KB.
 fn luma(w: Weights, from: Scale) -> Value

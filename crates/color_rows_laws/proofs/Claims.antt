@@ -1,23 +1,24 @@
 -- The claims of specs/Claims.antt. Assumes nothing.
 use mathlib.Core.Path.{_≡_, refl, _∙_}
 use Prim.Native.Nat.{ℕ, _≤_}
-use Rattle.layout.specs.declared.range.Range.{Range}
-use Rattle.layout.specs.declared.range.Range.the-variants.{Narrow, Full, LegacyFull}
-use Rattle.layout.specs.declared.kind.Kind.the-variants.{Brightness, Difference}
-use Rattle.layout.specs.Layout.{bitsOf, topOf}
-use Rattle.layout.proofs.Depths.{Steps, depth-steps, known-bits}
-use Rattle.scales.specs.declared.scale.Scale.{Scale}
-use Rattle.scales.specs.Scale.{scaleOf}
-use Rattle.scales.proofs.Scales.{fine}
+use Rattle.parameters.specs.declared.range.Range.{Range}
+use Rattle.parameters.specs.declared.range.Range.the-variants.{Narrow, Full, LegacyFull}
+use Rattle.parameters.specs.declared.kind.Kind.the-variants.{Brightness, Difference}
+use Rattle.parameters.specs.Parameters.{bitsOf, topOf}
+use Rattle.parameters.proofs.Depths.{Steps, depth-steps, known-bits}
+use Rattle.scale.specs.declared.Scale.{Scale}
+use Rattle.scale.specs.Scale.{scaleOf}
+use Rattle.float_scale.proofs.Fine.{fine}
 use Rattle.color_equations.specs.Conversion.{ycbcrOf, rgbOf}
 use Rattle.color_equations.proofs.Channels.{ycbcr-by, rgb-by}
 use Rattle.color_line.specs.inner.Rows.{rowCode, rowsCode}
+use Rattle.color_numbers.specs.declared.Numbers.{Numbers}
+use Rattle.color_numbers.specs.inner.Numbers.{numbersOf}
+use Rattle.color_numbers.specs.inner.Sizes.{SmallNumbers}
+use Rattle.color_numbers.proofs.Known.{passed, numbers-small}
 use Rattle.color_rows.specs.declared.linear.Row.{Row}
-use Rattle.color_rows.specs.declared.numbers.Numbers.{Numbers}
-use Rattle.color_rows.specs.inner.Known.{numbersOf}
 use Rattle.color_rows.specs.inner.Rows.{floatsOf, plainGreenRow, greenRowFrom, ycbcrRows, rgbRows}
-use Rattle.color_rows.specs.inner.Sizes.{Fits, SmallNumbers}
-use Rattle.color_rows.proofs.Known.{passed, numbers-small}
+use Rattle.color_rows.specs.inner.Sizes.{Fits}
 use Rattle.color_rows.proofs.Sizes.{top-least, top-most, luma-row-fits, cb-row-fits, cr-row-fits, red-row-fits, green-row-fits, blue-row-fits}
 use Rattle.color_rows_laws.specs.Claims.{ToYcbcrExact, ToRgbExact}
 use Rattle.color_rows_laws.proofs.Rows.{clampedAt}

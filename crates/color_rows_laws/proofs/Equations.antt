@@ -5,17 +5,17 @@ use Prim.Native.Nat.{ℕ, _+_, _-_, _*_, _/_, _≤_, _<_}
 use native.Mathlib.Nat.{mul-assoc, mul-left-comm, mul-add, add-mul, mul-pos, mul-div-mul-right}
 use native.Mathlib.Omega.{arith}
 use lib.Dec.{lit<}
-use Rattle.layout.specs.declared.range.Range.{Range}
-use Rattle.layout.specs.declared.range.Range.the-variants.{Narrow, Full, LegacyFull}
-use Rattle.layout.specs.declared.kind.Kind.the-variants.{Brightness, Difference}
-use Rattle.layout.proofs.Depths.{Steps}
+use Rattle.parameters.specs.declared.range.Range.{Range}
+use Rattle.parameters.specs.declared.range.Range.the-variants.{Narrow, Full, LegacyFull}
+use Rattle.parameters.specs.declared.kind.Kind.the-variants.{Brightness, Difference}
+use Rattle.parameters.proofs.Depths.{Steps}
 use Rattle.fractions.specs.Fraction.{Fraction, bounded}
 use Rattle.fractions.proofs.Cuts.{outside, outside-same}
 use Rattle.fractions.proofs.Same.{Is, is-also}
 use Rattle.floats.specs.declared.Ends.{Ends}
-use Rattle.scales.specs.declared.scale.Scale.{Scale}
-use Rattle.scales.specs.Scale.{scaleOf}
-use Rattle.scales.specs.inner.Floats.{strictly, endsOf}
+use Rattle.scale.specs.declared.Scale.{Scale}
+use Rattle.scale.specs.Scale.{scaleOf}
+use Rattle.float_scale.specs.inner.Floats.{strictly, endsOf}
 use Rattle.quantization.specs.Code.{codeOfValue}
 use Rattle.quantization.proofs.Codes.{clamped-is}
 use Rattle.color_equations.specs.declared.weights.Weights.{Weights}
@@ -23,11 +23,13 @@ use Rattle.color_equations.specs.Weights.{greenOf}
 use Rattle.color_equations.specs.Equations.{lumaOf, chromaOf, primaryOf, greenFrom}
 use Rattle.color_equations.specs.Conversion.{brightness, difference}
 use Rattle.color_equations.proofs.Whole.{luma-whole, luma-den, cb-whole, cr-whole, chroma-den, primary-whole, primary-den, green-whole, green-den}
+use Rattle.color_numbers.specs.declared.spread.Spread.{Spread}
+use Rattle.color_numbers.specs.inner.Spread.{spreadOf}
+use Rattle.color_numbers.specs.inner.Sizes.{SmallWeights}
+use Rattle.color_numbers.proofs.Spreads.{spread-small}
 use Rattle.color_rows.specs.declared.linear.Value.{Value}
-use Rattle.color_rows.specs.declared.rgb.Spread.{Spread}
-use Rattle.color_rows.specs.inner.Rows.{codedOf, codeRow, lumaValue, cbValue, crValue, spreadOf, redValue, greenValue, blueValue}
-use Rattle.color_rows.specs.inner.Sizes.{SmallWeights}
-use Rattle.color_rows.proofs.Sizes.{brightness-small, difference-small, spread-small}
+use Rattle.color_rows.specs.inner.Rows.{codedOf, codeRow, lumaValue, cbValue, crValue, redValue, greenValue, blueValue}
+use Rattle.color_rows.proofs.Sizes.{brightness-small, difference-small}
 use Rattle.color_rows_laws.proofs.Rows.{plusAt, minusAt, clampedBy, clampedAt}
 
 -- ---- a value's row

@@ -9,27 +9,29 @@ use lib.Dec.{eqb, leb}
 use Rattle.lists.specs.Lists.{tabulate, every}
 use Rattle.lists.proofs.Tests.{and-left, and-right}
 use Rattle.lists.proofs.Numbers.{sub-mul}
-use Rattle.layout.specs.declared.range.Range.{Range}
-use Rattle.layout.specs.declared.range.Range.the-variants.{Narrow, Full, LegacyFull}
-use Rattle.layout.specs.declared.depth.Depth.{Depth}
-use Rattle.layout.specs.declared.depth.Depth.the-variants.{Eight, Ten, Twelve}
-use Rattle.layout.specs.declared.kind.Kind.the-variants.{Brightness}
-use Rattle.layout.specs.Layout.{primariesKnown, bitsOf, stepOf}
-use Rattle.layout.proofs.Depths.{depth-steps}
+use Rattle.parameters.specs.declared.range.Range.{Range}
+use Rattle.parameters.specs.declared.range.Range.the-variants.{Narrow, Full, LegacyFull}
+use Rattle.parameters.specs.declared.depth.Depth.{Depth}
+use Rattle.parameters.specs.declared.depth.Depth.the-variants.{Eight, Ten, Twelve}
+use Rattle.parameters.specs.declared.kind.Kind.the-variants.{Brightness}
+use Rattle.parameters.specs.Parameters.{primariesKnown, bitsOf, stepOf}
+use Rattle.parameters.proofs.Depths.{depth-steps}
 use Rattle.fractions.specs.Fraction.{bounded}
 use Rattle.fractions.proofs.Cuts.{outside, outside-same}
 use Rattle.floats.specs.declared.Ends.{Ends}
-use Rattle.scales.specs.declared.scale.Scale.{Scale}
-use Rattle.scales.specs.Scale.{scaleOf}
+use Rattle.scale.specs.declared.Scale.{Scale}
+use Rattle.scale.specs.Scale.{scaleOf}
 use Rattle.color_equations.specs.declared.weights.Weights.{Weights}
 use Rattle.color_equations.specs.Weights.{weightsOf, greenOf}
 use Rattle.color_equations.proofs.Table.{each-known}
-use Rattle.color_rows.specs.declared.green.GreenTerms.{GreenTerms}
-use Rattle.color_rows.specs.declared.green.Ratio.{Ratio}
+use Rattle.color_numbers.specs.declared.green.GreenTerms.{GreenTerms}
+use Rattle.color_numbers.specs.declared.green.Ratio.{Ratio}
+use Rattle.color_numbers.specs.inner.Green.{greenTerms, ratioOf}
+use Rattle.color_numbers.specs.inner.Spread.{spreadOf}
+use Rattle.color_numbers.proofs.Table.{ratio-small}
 use Rattle.color_rows.specs.declared.linear.Row.{Row}
-use Rattle.color_rows.specs.inner.Green.{greenTerms, ratioOf, narrowGreenValue}
-use Rattle.color_rows.specs.inner.Rows.{codedOf, codeRow, spreadOf, greenValue}
-use Rattle.color_rows.proofs.Sizes.{ratio-small}
+use Rattle.color_rows.specs.inner.Green.{narrowGreenValue}
+use Rattle.color_rows.specs.inner.Rows.{codedOf, codeRow, greenValue}
 use Rattle.color_rows_laws.proofs.Rows.{plusAt, minusAt, clampedBy, clampedAt}
 
 -- ---- rows of one fraction

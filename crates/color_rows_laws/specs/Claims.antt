@@ -2,7 +2,7 @@
 use Prim.Native.Nat.{ℕ, _≤_}
 use mathlib.Core.Bool.{true}
 use mathlib.Core.Path.{_≡_}
-use Rattle.layout.specs.Layout.{rangeOf, topOf}
+use Rattle.parameters.specs.Parameters.{rangeOf, topOf}
 use Rattle.color_equations.specs.Weights.{weightsOf}
 use Rattle.color_equations.specs.Conversion.{ycbcrOf, rgbOf}
 use Rattle.color_equations.specs.Line.{convertible}

@@ -11,10 +11,11 @@ use Rattle.lists.proofs.Tests.{and-right, and3, pass, stop}
 use Rattle.layout.specs.Layout.{validLayout}
 use Rattle.line.specs.Answer.{unpackAnswer}
 use Rattle.card_table.specs.declared.facts.Facts.{Facts}
-use Rattle.card_table.specs.Edition.{editionKnown, leastEdition}
-use Rattle.card_table.specs.Facts.{sideKnown, accessKnown, factsValid, oddWidth, withAccess}
+use Rattle.card_edition.specs.Edition.{editionKnown}
+use Rattle.card_table.specs.Facts.{leastEdition, sideKnown, factsValid, oddWidth, withAccess}
+use Rattle.card_edition.specs.Access.{accessKnown}
 use Rattle.card_table.specs.Table.{cardSize, cardBytes}
-use Rattle.card_table.proofs.Table.{least-with}
+use Rattle.card_table.proofs.Least.{least-with}
 use Rattle.card_reader.specs.declared.CardReading.{CardReading}
 use Rattle.card_reader.specs.declared.CardReading.the-variants.{Shown, Refused as NotShown}
 use Rattle.card_reader.specs.Reading.{readCard}

@@ -8,11 +8,10 @@ use Rattle.lists.specs.Bytes.{bytesOf}
 use Rattle.layout.specs.Layout.{validPoints, validGroups, validLayout}
 use Rattle.line.specs.declared.LineAnswer.the-variants.{Points, Refused as LineRefused}
 use Rattle.card_table.specs.declared.facts.Facts.{Facts}
-use Rattle.card_table.specs.Edition.{leastEdition}
-use Rattle.card_table.specs.Facts.{factsValid, withAccess}
+use Rattle.card_table.specs.Facts.{leastEdition, factsValid, withAccess}
 use Rattle.card_table.specs.Table.{cardBytes}
 use Rattle.card_reader.specs.declared.CardReading.the-variants.{Shown, Refused as NotShown}
-use Rattle.card_table.specs.Access.{accessOf, accessUnknown}
+use Rattle.card_edition.specs.Access.{accessOf, accessUnknown}
 use Rattle.card_reader.specs.Reading.{layoutIn, factsIn, frontRight, endWrong, readCard}
 use Rattle.refusal.specs.declared.Written.{Written}
 use Rattle.refusal.specs.declared.Written.the-variants.{Done, Refused}

@@ -12,15 +12,17 @@ use lib.ListN.{length, getD}
 use Rattle.lists.specs.Lists.{newOrKept}
 use Rattle.lists.proofs.Tests.{and-left}
 use Rattle.layout.specs.declared.Layout.{Layout}
-use Rattle.layout.specs.Layout.{kindOf, grouped, pointsEach, wholeGroups, validLayout}
+use Rattle.parameters.specs.Parameters.{kindOf}
+use Rattle.layout.specs.Layout.{grouped, pointsEach, wholeGroups, validLayout}
 use Rattle.quantization.specs.Answer.{named}
 use Rattle.line.specs.declared.LineAnswer.the-variants.{Points, Refused as LineRefused}
 use Rattle.line.specs.Line.{pointsIn, bytesFor}
 use Rattle.line_values.specs.Decode.{valuesOf}
 use Rattle.decoding_laws.proofs.Claims.{decodes-each-code}
 use Rattle.card_table.specs.declared.facts.Facts.{Facts}
-use Rattle.card_table.specs.Edition.{editionKnown, hasAccess, leastEdition}
-use Rattle.card_table.specs.Facts.{closed, withAccess}
+use Rattle.card_edition.specs.Edition.{editionKnown, hasAccess}
+use Rattle.card_table.specs.Facts.{leastEdition, withAccess}
+use Rattle.card_edition.specs.Access.{closed}
 use Rattle.card_table.specs.Table.{cardSize}
 use Rattle.card_reader.specs.declared.CardReading.{CardReading}
 use Rattle.card_reader.specs.declared.CardReading.the-variants.{Shown, Refused as NotShown}

@@ -12,8 +12,9 @@ use Rattle.lists.proofs.Tests.{and-left, and-right, and3}
 use Rattle.layout.proofs.Facts.{groups-say}
 use Rattle.line.proofs.Grouped.{group-points}
 use Rattle.card_table.specs.declared.facts.Facts.{Facts}
-use Rattle.card_table.specs.Edition.{editionKnown, hasAccess, leastEdition}
-use Rattle.card_table.specs.Facts.{closed}
+use Rattle.card_edition.specs.Edition.{editionKnown, hasAccess}
+use Rattle.card_table.specs.Facts.{leastEdition}
+use Rattle.card_edition.specs.Access.{closed}
 use Rattle.card_table.specs.Table.{cardSize}
 use Rattle.card_reader.specs.declared.CardReading.the-variants.{Shown}
 use Rattle.refusal.specs.declared.Written.{Written}

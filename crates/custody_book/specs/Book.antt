@@ -14,8 +14,9 @@ use Rattle.line.specs.Line.{pointsIn}
 use Rattle.line.specs.Answer.{wholeBytes}
 use Rattle.line_values.specs.Decode.{valuesOf}
 use Rattle.card_table.specs.declared.facts.Facts.{Facts}
-use Rattle.card_table.specs.Edition.{editionKnown, hasAccess, leastEdition}
-use Rattle.card_table.specs.Facts.{closed, withAccess}
+use Rattle.card_edition.specs.Edition.{editionKnown, hasAccess}
+use Rattle.card_table.specs.Facts.{leastEdition, withAccess}
+use Rattle.card_edition.specs.Access.{closed}
 use Rattle.card_table.specs.Table.{cardSize, cardBytes}
 use Rattle.card_reader.specs.declared.CardReading.{CardReading}
 use Rattle.card_reader.specs.declared.CardReading.the-variants.{Shown, Refused as NotShown}

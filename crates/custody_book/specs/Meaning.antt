@@ -7,7 +7,7 @@ use lib.Dec.{eqb, ltb}
 use lib.Ieee.{Float, nan}
 use lib.ListN.{length, getD}
 use Rattle.lists.specs.Bytes.{areBytes}
-use Rattle.layout.specs.Layout.{kindOf}
+use Rattle.parameters.specs.Parameters.{kindOf}
 use Rattle.refusal.specs.Refusal.{wrongLineOrOutput}
 use Rattle.quantization.specs.Answer.{named, dequantized}
 use Rattle.line.specs.declared.LineAnswer.{LineAnswer}
@@ -15,8 +15,9 @@ use Rattle.line.specs.declared.LineAnswer.the-variants.{Points, Refused as Line
 use Rattle.line.specs.Line.{codeAt}
 use Rattle.line_values.specs.Decode.{valuesOf}
 use Rattle.card_table.specs.declared.facts.Facts.{Facts}
-use Rattle.card_table.specs.Edition.{editionKnown, hasAccess, leastEdition}
-use Rattle.card_table.specs.Facts.{closed}
+use Rattle.card_edition.specs.Edition.{editionKnown, hasAccess}
+use Rattle.card_table.specs.Facts.{leastEdition}
+use Rattle.card_edition.specs.Access.{closed}
 use Rattle.card_table.specs.Table.{cardSize, cardBytes}
 use Rattle.card_reader.specs.declared.CardReading.{CardReading}
 use Rattle.card_reader.specs.declared.CardReading.the-variants.{Shown, Refused as NotShown}

@@ -11,8 +11,8 @@ use Rattle.layout.specs.declared.Layout.{Layout}
 use Rattle.layout.specs.Layout.{validGroups}
 use Rattle.line.specs.declared.LineAnswer.{LineAnswer}
 use Rattle.card_table.specs.declared.facts.Facts.{Facts}
-use Rattle.card_table.specs.Edition.{editionKnown}
-use Rattle.card_table.specs.Facts.{closed}
+use Rattle.card_edition.specs.Edition.{editionKnown}
+use Rattle.card_edition.specs.Access.{closed}
 use Rattle.card_table.specs.Table.{cardSize}
 use Rattle.card_reader.specs.declared.CardReading.{CardReading}
 use Rattle.card_reader.specs.declared.CardReading.the-variants.{Shown}

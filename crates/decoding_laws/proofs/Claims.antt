@@ -14,7 +14,8 @@ use Rattle.lists.proofs.Every.{every-at}
 use Rattle.lists.proofs.Lists.{length-tabulate, getD-tabulate}
 use Rattle.lists.proofs.Tests.{and-right, pass, stop}
 use Rattle.layout.specs.declared.Layout.{Layout}
-use Rattle.layout.specs.Layout.{rangeOf, grouped, validLayout}
+use Rattle.parameters.specs.Parameters.{rangeOf}
+use Rattle.layout.specs.Layout.{grouped, validLayout}
 use Rattle.layout.proofs.Facts.{two-each, groups-valid}
 use Rattle.quantization.specs.declared.Quantized.the-variants.{Code}
 use Rattle.quantization.specs.Code.{codeOf, codeOr, isCutCode}

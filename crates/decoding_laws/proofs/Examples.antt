@@ -8,8 +8,8 @@ use Rattle.lists.specs.Lists.{tabulate, every, count}
 use Rattle.lists.specs.Bytes.{little}
 use Rattle.layout.specs.declared.Layout.{Layout}
 use Rattle.layout.specs.Layout.{validPoints, validGroups, validLayout}
-use Rattle.scales.specs.Scale.{scaleOf}
-use Rattle.scales.specs.Value.{nearestFloat, valueOf}
+use Rattle.scale.specs.Scale.{scaleOf}
+use Rattle.scale.specs.Value.{nearestFloat, valueOf}
 use Rattle.quantization.specs.Code.{codeOfValue, codeOf}
 use Rattle.line.specs.declared.LineAnswer.the-variants.{Points, Refused as LineRefused}
 use Rattle.line.specs.declared.ClampedAnswer.the-variants.{Points as PointsAndCuts, Refused as NotClamped}

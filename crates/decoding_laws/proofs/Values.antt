@@ -21,13 +21,14 @@ use lib.IntN.{pos}
 use Rattle.fractions.specs.declared.Clamped.{Clamped}
 use Rattle.fractions.specs.Fraction.{isCut, clamped}
 use Rattle.layout.specs.declared.Layout.{Layout}
-use Rattle.layout.specs.declared.range.Range.{Range}
-use Rattle.layout.specs.Layout.{depthKnown, topOf, rangeOf, kindOf, offsetOf, validLayout}
+use Rattle.parameters.specs.declared.range.Range.{Range}
+use Rattle.parameters.specs.Parameters.{depthKnown, topOf, rangeOf, kindOf}
+use Rattle.layout.specs.Layout.{offsetOf, validLayout}
 use Rattle.layout.proofs.Facts.{one-of-two, not-grouped, groups-say, valid-says}
-use Rattle.scales.specs.declared.scale.Scale.{Scale}
+use Rattle.scale.specs.declared.Scale.{Scale}
 use Rattle.quantization.specs.declared.code.Coded.the-variants.{Code}
 use Rattle.quantization.specs.declared.Quantized.the-variants.{Code as Answered}
-use Rattle.scales.specs.Value.{valueOf}
+use Rattle.scale.specs.Value.{valueOf}
 use Rattle.quantization.specs.Code.{codeOf, codeOr, isCutCode}
 use Rattle.scales.specs.Channel.{scaleAt}
 use Rattle.quantization.specs.Answer.{named, dequantized, orRefused}

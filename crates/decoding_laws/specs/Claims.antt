@@ -9,7 +9,8 @@ use lib.ListN.{length, getD}
 use Rattle.lists.specs.Lists.{every, count}
 use Rattle.fractions.specs.Fraction.{bounded}
 use Rattle.layout.specs.declared.Layout.{Layout}
-use Rattle.layout.specs.Layout.{rangeOf, kindOf, grouped, wholeGroups, validGroups, validLayout}
+use Rattle.parameters.specs.Parameters.{rangeOf, kindOf}
+use Rattle.layout.specs.Layout.{grouped, wholeGroups, validGroups, validLayout}
 use Rattle.refusal.specs.Refusal.{outside, wrongLineOrOutput, oddCount}
 use Rattle.quantization.specs.declared.Quantized.{Quantized}
 use Rattle.quantization.specs.declared.Quantized.the-variants.{Code, Refused}

@@ -8,8 +8,9 @@ use borrow.Author.Tests.{eq-eqb, ltb-true, lt-ltb, le-ltb, le-leb}
 use lib.Dec.{eqb, leb}
 use Rattle.lists.proofs.Tests.{and-left, and-right, and3, pass, stop}
 use Rattle.layout.specs.declared.Layout.{Layout}
-use Rattle.layout.specs.declared.range.Range.the-variants.{Narrow, Full, LegacyFull}
-use Rattle.layout.specs.Layout.{rangeKnown, rangeOf, channelKnown, inside, apart, kindOf}
+use Rattle.parameters.specs.declared.range.Range.the-variants.{Narrow, Full, LegacyFull}
+use Rattle.parameters.specs.Parameters.{rangeKnown, rangeOf, channelKnown, kindOf}
+use Rattle.layout.specs.Layout.{inside, apart}
 use Rattle.descriptor_samples.specs.declared.sample.Sample.{Sample}
 use Rattle.descriptor_samples.specs.declared.samples.Samples.{Samples}
 use Rattle.descriptor_writer.specs.declared.field.Field.{Field}

@@ -15,8 +15,9 @@ use Rattle.lists.proofs.Every.{every-at}
 use Rattle.lists.proofs.Lists.{is-tabulate}
 use Rattle.lists.proofs.Tests.{and-left, and-right, and3}
 use Rattle.layout.specs.declared.Layout.{Layout}
-use Rattle.layout.specs.declared.range.Range.{Range}
-use Rattle.layout.specs.Layout.{modelKnown, primariesKnown, rangeKnown, rangeOf, depthKnown, bytesKnown, kindOf, validPoints}
+use Rattle.parameters.specs.declared.range.Range.{Range}
+use Rattle.parameters.specs.Parameters.{modelKnown, primariesKnown, rangeKnown, rangeOf, depthKnown, kindOf}
+use Rattle.layout.specs.Layout.{bytesKnown, validPoints}
 use Rattle.descriptor_samples.specs.declared.sample.Sample.{Sample}
 use Rattle.descriptor_samples.specs.declared.samples.Samples.{Samples}
 use Rattle.descriptor_layout.specs.declared.DescriptorReading.{DescriptorReading}

@@ -10,12 +10,13 @@ use lib.Dec.{eqb, leb}
 use lib.ListN.{getD}
 use Rattle.lists.proofs.Tests.{or-cases, pass, stop}
 use Rattle.layout.specs.declared.Layout.{Layout}
-use Rattle.layout.specs.declared.range.Range.{Range}
-use Rattle.layout.specs.declared.range.Range.the-variants.{Narrow, Full, LegacyFull}
-use Rattle.layout.specs.declared.kind.Kind.{Kind}
-use Rattle.layout.specs.Layout.{rangeNumber, rangeOf, depthKnown, kindOf, apart}
-use Rattle.layout.proofs.Depths.{Steps, steps}
-use Rattle.layout.proofs.Known.{range-number}
+use Rattle.parameters.specs.declared.range.Range.{Range}
+use Rattle.parameters.specs.declared.range.Range.the-variants.{Narrow, Full, LegacyFull}
+use Rattle.parameters.specs.declared.kind.Kind.{Kind}
+use Rattle.parameters.specs.Parameters.{rangeNumber, rangeOf, depthKnown, kindOf}
+use Rattle.layout.specs.Layout.{apart}
+use Rattle.parameters.proofs.Depths.{Steps, steps}
+use Rattle.parameters.proofs.Known.{range-number}
 use Rattle.layout.proofs.Facts.{Points}
 use Rattle.descriptor_samples.specs.declared.sample.Sample.{Sample}
 use Rattle.descriptor_samples.specs.declared.samples.Samples.{Samples}

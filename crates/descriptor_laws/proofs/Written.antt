@@ -9,13 +9,14 @@ use lib.Dec.{eqb, lit<}
 use lib.ListN.{length, getD}
 use Rattle.lists.specs.Bytes.{bytesOf}
 use Rattle.layout.specs.declared.Layout.{Layout}
-use Rattle.layout.specs.declared.range.Range.{Range}
-use Rattle.layout.specs.declared.range.Range.the-variants.{Narrow, Full, LegacyFull}
-use Rattle.layout.specs.declared.kind.Kind.{Kind}
-use Rattle.layout.specs.declared.kind.Kind.the-variants.{Brightness, Difference}
-use Rattle.layout.specs.Layout.{rangeNumber, rangeOf, bytesKnown, kindOf}
-use Rattle.layout.proofs.Depths.{Steps, steps}
-use Rattle.layout.proofs.Known.{range-number}
+use Rattle.parameters.specs.declared.range.Range.{Range}
+use Rattle.parameters.specs.declared.range.Range.the-variants.{Narrow, Full, LegacyFull}
+use Rattle.parameters.specs.declared.kind.Kind.{Kind}
+use Rattle.parameters.specs.declared.kind.Kind.the-variants.{Brightness, Difference}
+use Rattle.parameters.specs.Parameters.{rangeNumber, rangeOf, kindOf}
+use Rattle.layout.specs.Layout.{bytesKnown}
+use Rattle.parameters.proofs.Depths.{Steps, steps}
+use Rattle.parameters.proofs.Known.{range-number}
 use Rattle.layout.proofs.Facts.{Points, points-say}
 use Rattle.descriptor_samples.specs.declared.sample.Sample.{Sample}
 use Rattle.descriptor_samples.specs.declared.samples.Samples.{Samples}

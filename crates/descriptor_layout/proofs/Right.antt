@@ -6,8 +6,9 @@ use native.Mathlib.Omega.{arith}
 use borrow.Author.Tests.{eqb-true, leb-true}
 use lib.Dec.{eqb, leb}
 use Rattle.lists.proofs.Tests.{and-left, and-right, and3}
-use Rattle.layout.specs.Layout.{depthKnown, bytesKnown}
-use Rattle.layout.proofs.Depths.{known-between}
+use Rattle.parameters.specs.Parameters.{depthKnown}
+use Rattle.layout.specs.Layout.{bytesKnown}
+use Rattle.parameters.proofs.Depths.{known-between}
 use Rattle.descriptor_samples.specs.declared.samples.Samples.{Samples}
 use Rattle.descriptor_samples.specs.Samples.{eachOnce, inOrder, samplesRight}
 use Rattle.descriptor_layout.specs.Told.{offsetIn}

@@ -7,9 +7,9 @@ ghost use Rattle.descriptor_samples.specs.Samples.{samplesRight};
 ghost use Rattle.descriptor_layout.specs.Told.{offsetIn, layoutFrom, readSamples};
 ghost use Rattle.descriptor_layout.specs.declared.DescriptorReading.the-variants.{Refused};
 use descriptor_samples::Samples;
-use layout::Depth;
-use layout::KnownDepth;
 use layout::Layout;
+use parameters::Depth;
+use parameters::KnownDepth;
 
 // The layout that a descriptor tells, or the refusal's number.
 pub enum DescriptorReading {

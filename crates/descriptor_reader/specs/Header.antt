@@ -6,7 +6,8 @@ use lib.Dec.{eqb}
 use lib.ListN.{getD}
 use Rattle.lists.specs.Bytes.{numberAt}
 use Rattle.descriptor_samples.specs.Size.{descriptorSize}
-use Rattle.layout.specs.Layout.{modelKnown, primariesKnown, bytesKnown}
+use Rattle.parameters.specs.Parameters.{modelKnown, primariesKnown}
+use Rattle.layout.specs.Layout.{bytesKnown}
 
 -- the k bytes from place i on are zero
 abbrev pub zeros : List ℕ → ℕ → ℕ → Bool

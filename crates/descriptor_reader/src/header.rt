@@ -23,8 +23,8 @@ pub(crate) fn color_right(bytes: &[u8]) -> bool
     requires { ⌜ length (now bytes) ≡ descriptorSize ⌝ }
     ensures { λ r. ⌜ r ≡ colorRight (now (bytes .entry)) ⌝ }
 {
-    layout::model_known(bytes[12])
-        & layout::primaries_known(bytes[13])
+    parameters::model_known(bytes[12])
+        & parameters::primaries_known(bytes[13])
         & (bytes[14] == 3)
         & (bytes[15] == 0)
 }

@@ -1,10 +1,10 @@
 -- The numbers of a range: document 01, "Descriptor", with s = 2^(n-8), and request A1. Assumes nothing.
 use Prim.Native.Nat.{ℕ, _*_, _^_}
-use Rattle.layout.specs.declared.range.Range.{Range}
-use Rattle.layout.specs.declared.range.Range.the-variants.{Narrow, Full, LegacyFull}
-use Rattle.layout.specs.declared.kind.Kind.{Kind}
-use Rattle.layout.specs.declared.kind.Kind.the-variants.{Brightness, Difference}
-use Rattle.layout.specs.Layout.{stepOf, topOf}
+use Rattle.parameters.specs.declared.range.Range.{Range}
+use Rattle.parameters.specs.declared.range.Range.the-variants.{Narrow, Full, LegacyFull}
+use Rattle.parameters.specs.declared.kind.Kind.{Kind}
+use Rattle.parameters.specs.declared.kind.Kind.the-variants.{Brightness, Difference}
+use Rattle.parameters.specs.Parameters.{stepOf, topOf}
 use Rattle.descriptor_samples.specs.declared.limits.Limits.{Limits}
 
 -- narrow is lower 16s, full is 0, and so is A1's range

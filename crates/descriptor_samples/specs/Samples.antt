@@ -2,9 +2,9 @@
 use Prim.Native.Nat.{ℕ, _+_, _*_}
 use mathlib.Core.Bool.{Bool, not, cond, _&&_}
 use lib.Dec.{eqb, leb}
-use Rattle.layout.specs.declared.range.Range.{Range}
-use Rattle.layout.specs.declared.range.Range.the-variants.{Narrow, Full, LegacyFull}
-use Rattle.layout.specs.Layout.{rangeNumber, depthKnown, channelKnown, kindOf}
+use Rattle.parameters.specs.declared.range.Range.{Range}
+use Rattle.parameters.specs.declared.range.Range.the-variants.{Narrow, Full, LegacyFull}
+use Rattle.parameters.specs.Parameters.{rangeNumber, depthKnown, channelKnown, kindOf}
 use Rattle.descriptor_samples.specs.declared.sample.Sample.{Sample}
 use Rattle.descriptor_samples.specs.declared.samples.Samples.{Samples}
 use Rattle.descriptor_samples.specs.Limits.{lowerOf, upperOf}

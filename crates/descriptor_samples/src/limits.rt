@@ -1,10 +1,10 @@
 // The lower and upper numbers by which a sample states its range.
 ghost use mathlib.Core.Path.{_≡_};
-ghost use Rattle.layout.specs.Layout.{bitsOf};
+ghost use Rattle.parameters.specs.Parameters.{bitsOf};
 ghost use Rattle.descriptor_samples.specs.Limits.{limitsOf};
-use layout::Depth;
-use layout::Kind;
-use layout::Range;
+use parameters::Depth;
+use parameters::Kind;
+use parameters::Range;
 
 pub struct Limits {
     pub lower: u16,

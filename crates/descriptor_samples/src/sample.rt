@@ -1,11 +1,11 @@
 // One sample.
 ghost use mathlib.Core.Path.{_≡_};
-ghost use Rattle.layout.specs.Layout.{bitsOf};
+ghost use Rattle.parameters.specs.Parameters.{bitsOf};
 ghost use Rattle.descriptor_samples.specs.Samples.{states};
 use crate::limits::Limits;
-use layout::Depth;
-use layout::Kind;
-use layout::Range;
+use parameters::Depth;
+use parameters::Kind;
+use parameters::Range;
 
 // A sample by its numbers. `length` is n - 1.
 pub struct Sample {

@@ -1,11 +1,11 @@
 // All three samples.
 ghost use mathlib.Core.Path.{_≡_};
 ghost use Prim.Native.Nat.{_+_};
-ghost use Rattle.layout.specs.Layout.{bitsOf};
+ghost use Rattle.parameters.specs.Parameters.{bitsOf};
 ghost use Rattle.descriptor_samples.specs.Samples.{allState, rangeIn, eachOnce, oneDepth, inOrder, samplesRight};
 use crate::sample::Sample;
-use layout::Depth;
-use layout::Range;
+use parameters::Depth;
+use parameters::Range;
 
 // In the order in which they stand.
 pub struct Samples {
@@ -18,9 +18,9 @@ pub struct Samples {
 fn each_once(a: u8, b: u8, c: u8) -> bool
     ensures { λ r. ⌜ r ≡ eachOnce a b c ⌝ }
 {
-    layout::channel_known(a)
-        & layout::channel_known(b)
-        & layout::channel_known(c)
+    parameters::channel_known(a)
+        & parameters::channel_known(b)
+        & parameters::channel_known(c)
         & !(a == b)
         & !(a == c)
         & !(b == c)

@@ -1,11 +1,11 @@
 // The range and the depth of a layout by its numbers. `write` has seen that the layout is valid, so that the last arm of
 // neither is taken.
 ghost use mathlib.Core.Path.{_≡_};
-ghost use Rattle.layout.specs.Layout.{rangeOf, depthOf};
-use layout::Depth;
-use layout::KnownDepth;
-use layout::KnownRange;
-use layout::Range;
+ghost use Rattle.parameters.specs.Parameters.{rangeOf, depthOf};
+use parameters::Depth;
+use parameters::KnownDepth;
+use parameters::KnownRange;
+use parameters::Range;
 
 pub(crate) fn range_of(number: u8) -> Range
     ensures { λ r. ⌜ r ≡ rangeOf number ⌝ }

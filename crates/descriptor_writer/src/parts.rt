@@ -1,15 +1,15 @@
 // The parts of a descriptor as bytes (document 01, "Descriptor").
 ghost use mathlib.Core.Path.{_≡_};
 ghost use mathlib.Core.Bool.{true};
-ghost use Rattle.layout.specs.Layout.{depthKnown};
+ghost use Rattle.parameters.specs.Parameters.{depthKnown};
 ghost use Rattle.descriptor_writer.specs.Sample.{sampleBytes, sampleOf};
 ghost use Rattle.descriptor_writer.specs.Writing.{frontBytes};
 use crate::field::Field;
 use crate::numbers::depth_of;
 use crate::numbers::range_of;
 use descriptor_samples::Limits;
-use layout::Kind;
 use layout::Layout;
+use parameters::Kind;
 
 // Bytes 0 to 27 of a layout's descriptor.
 pub(crate) fn front_bytes(layout: Layout) -> [u8; 28]

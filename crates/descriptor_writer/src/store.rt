@@ -4,7 +4,7 @@ ghost use mathlib.Core.Bool.{true};
 ghost use lib.ListN.{length};
 ghost use lib.Seq.{sets};
 ghost use Prim.Native.Nat.{_+_, _≤_};
-ghost use Rattle.layout.specs.Layout.{depthKnown};
+ghost use Rattle.parameters.specs.Parameters.{depthKnown};
 ghost use Rattle.descriptor_samples.specs.Size.{descriptorSize};
 ghost use Rattle.descriptor_writer.specs.Sample.{sampleBytes, sampleOf};
 ghost use Rattle.descriptor_writer.specs.Writing.{samplesBytes};

@@ -12,7 +12,8 @@ use lib.Pow.{pow-pos, le-ones}
 use Rattle.lists.proofs.Every.{every-drop, every-take}
 use Rattle.lists.proofs.Tests.{and-left, stop, pass}
 use Rattle.layout.specs.declared.Layout.{Layout}
-use Rattle.layout.specs.Layout.{topOf, channelKnown, validPoints}
+use Rattle.parameters.specs.Parameters.{topOf, channelKnown}
+use Rattle.layout.specs.Layout.{validPoints}
 use Rattle.line.specs.Point.{pointOf}
 use Rattle.layout.proofs.Facts.{valid-points, not-grouped}
 use Rattle.line.proofs.Points.{point-inside, code-at}

@@ -5,7 +5,8 @@ use mathlib.Core.List.{List}
 use lib.Dec.{eqb}
 use lib.ListN.{length}
 use Rattle.layout.specs.declared.Layout.{Layout}
-use Rattle.layout.specs.Layout.{channelKnown, validPoints}
+use Rattle.parameters.specs.Parameters.{channelKnown}
+use Rattle.layout.specs.Layout.{validPoints}
 use Rattle.refusal.specs.Refusal.{outside, wrongLineOrOutput}
 use Rattle.field.specs.declared.FieldCode.{FieldCode}
 use Rattle.field.specs.declared.FieldCode.the-variants.{Code, Refused as NoCode}

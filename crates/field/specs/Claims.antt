@@ -7,7 +7,8 @@ use lib.Dec.{eqb}
 use lib.ListN.{length, take, drop}
 use Rattle.lists.specs.Bytes.{areBytes, little}
 use Rattle.layout.specs.declared.Layout.{Layout}
-use Rattle.layout.specs.Layout.{topOf, offsetOf, grouped}
+use Rattle.parameters.specs.Parameters.{topOf}
+use Rattle.layout.specs.Layout.{offsetOf, grouped}
 use Rattle.refusal.specs.Refusal.{outside, wrongLineOrOutput}
 use Rattle.line.specs.Point.{bits}
 use Rattle.line.specs.Line.{codeAt, PackedLine}

@@ -24,7 +24,7 @@ pub enum FieldBytes {
 fn known(layout: Layout, channel: u8) -> bool
     ensures { λ r. ⌜ r ≡ fieldKnown layout channel ⌝ }
 {
-    layout.valid_points() & layout::channel_known(channel)
+    layout.valid_points() & parameters::channel_known(channel)
 }
 
 // The code of a channel, in just the bytes that hold its field. A group has no field of one point. Refused: 9, then 13.

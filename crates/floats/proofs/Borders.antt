@@ -5,10 +5,9 @@ use Prim.Native.Nat.{ℕ, suc, _+_, _-_, _*_, _%_, _^_, _≤_, _<_}
 use native.Mathlib.Nat.{le-trans, le-of-eq, mul-assoc, mul-left-comm, mul-one, one-mul, add-mul, mul-le-mul, mul-le-mul-right}
 use mathlib.Core.Logic.{_⊎_, inl, inr}
 use native.Mathlib.Omega.{arith}
-use mathlib.Core.Bool.{Bool, true, false}
+use mathlib.Core.Bool.{Bool, true, false, not}
 use lib.IntN.{ℤ, pos, negsuc}
 use lib.Dec.{T, leb, leb→le, nleb→lt, lit≤}
-use mathlib.Core.Bool.{not}
 use lib.Ieee.{up, down}
 use Rattle.floats.proofs.Floors.{Apart, apart-small}
 use Rattle.floats.proofs.Sums.{signedSum}

@@ -5,8 +5,8 @@ use mathlib.Core.List.{List}
 use lib.Dec.{eqb}
 use Rattle.fractions.specs.declared.Clamped.{Clamped}
 use Rattle.layout.specs.declared.Layout.{Layout}
-use Rattle.layout.specs.declared.range.Range.the-variants.{Narrow, Full}
-use Rattle.layout.specs.Layout.{rangeNumber, rangeOf}
+use Rattle.parameters.specs.declared.range.Range.the-variants.{Narrow, Full}
+use Rattle.parameters.specs.Parameters.{rangeNumber, rangeOf}
 use Rattle.color_equations.specs.Weights.{weightsOf}
 use Rattle.color_equations.specs.Conversion.{brightness, asBrightness, pick, rgbOf}
 use Rattle.color_equations.specs.Line.{Converter, convertedOf}

@@ -3,8 +3,8 @@ ghost use mathlib.Core.Path.{_≡_};
 ghost use Rattle.full_rgb.specs.inner.Way.{rgbWay, ycbcrWay, wayOf, fullBy};
 use color_line::FloatRows;
 use color_rows::KnownConversion;
-use layout::Depth;
 use layout::Layout;
+use parameters::Depth;
 
 mod stretch;
 

@@ -1,7 +1,7 @@
 // R'G'B' made full range, code by code.
 ghost use mathlib.Core.Path.{_≡_};
 ghost use Rattle.full_rgb.specs.inner.Way.{narrowStretch, noStretch, stretchedBy, eachBy};
-use layout::Depth;
+use parameters::Depth;
 
 // A code c becomes c + (times c + plus) / 1168 - less, from 0 to the top. m / (219 s) is 85/73, 341/292 or 1365/1168, so over 1168
 // at every depth: the divisor is a constant, and the compiler multiplies where it would divide.

@@ -12,13 +12,14 @@ use Rattle.lists.proofs.Every.{every-of}
 use Rattle.fractions.specs.declared.Clamped.{Clamped}
 use Rattle.fractions.specs.Fraction.{Fraction, clamp}
 use Rattle.layout.specs.declared.Layout.{Layout}
-use Rattle.layout.specs.declared.range.Range.the-variants.{Full}
-use Rattle.layout.specs.declared.kind.Kind.the-variants.{Brightness}
-use Rattle.layout.specs.declared.depth.Depth.{Depth}
-use Rattle.layout.specs.Layout.{rangeOf, depthOf, bitsOf, topOf, validLayout}
-use Rattle.layout.proofs.Depths.{known-bits}
+use Rattle.parameters.specs.declared.range.Range.the-variants.{Full}
+use Rattle.parameters.specs.declared.kind.Kind.the-variants.{Brightness}
+use Rattle.parameters.specs.declared.depth.Depth.{Depth}
+use Rattle.parameters.specs.Parameters.{rangeOf, depthOf, bitsOf, topOf}
+use Rattle.layout.specs.Layout.{validLayout}
+use Rattle.parameters.proofs.Depths.{known-bits}
 use Rattle.layout.proofs.Facts.{Valid, valid-says}
-use Rattle.scales.specs.Scale.{scaleOf}
+use Rattle.scale.specs.Scale.{scaleOf}
 use Rattle.quantization.specs.Code.{unclamped, codeOfValue}
 use Rattle.color_equations.specs.Weights.{weightsOf}
 use Rattle.color_equations.specs.Conversion.{pick, asBrightness, rgbOf}

@@ -8,10 +8,10 @@ use native.Mathlib.Omega.{arith}
 use borrow.Author.Tests.{eqb-true}
 use lib.Dec.{eqb}
 use Rattle.lists.proofs.Tests.{and-left, and-right}
-use Rattle.layout.specs.declared.depth.Depth.{Depth}
-use Rattle.layout.specs.declared.depth.Depth.the-variants.{Eight, Ten, Twelve}
-use Rattle.layout.specs.Layout.{bitsOf, topOf}
-use Rattle.scales.specs.Scale.{scaleOf}
+use Rattle.parameters.specs.declared.depth.Depth.{Depth}
+use Rattle.parameters.specs.declared.depth.Depth.the-variants.{Eight, Ten, Twelve}
+use Rattle.parameters.specs.Parameters.{bitsOf, topOf}
+use Rattle.scale.specs.Scale.{scaleOf}
 use Rattle.quantization.specs.Code.{codeOfValue}
 use Rattle.full_rgb.specs.Full.{stretchedOf}
 use Rattle.full_rgb.specs.inner.Way.{narrowStretch, stretchedBy}

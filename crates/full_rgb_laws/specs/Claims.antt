@@ -4,7 +4,8 @@ use mathlib.Core.Bool.{true}
 use mathlib.Core.Path.{_≡_}
 use mathlib.Core.List.{List}
 use Rattle.layout.specs.declared.Layout.{Layout}
-use Rattle.layout.specs.Layout.{depthOf, validLayout}
+use Rattle.parameters.specs.Parameters.{depthOf}
+use Rattle.layout.specs.Layout.{validLayout}
 use Rattle.line.specs.Line.{codesWithin}
 use Rattle.color_equations.specs.Line.{convertedOf, toRgb}
 use Rattle.full_rgb.specs.Full.{fullCodes}

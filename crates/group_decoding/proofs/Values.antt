@@ -12,8 +12,8 @@ use Rattle.lists.specs.inner.Stores.{written}
 use Rattle.lists.proofs.Filled.{Filled, filled-more, filled-all}
 use Rattle.layout.specs.declared.Layout.{Layout}
 use Rattle.layout.specs.Layout.{validGroups}
-use Rattle.scales.specs.declared.scale.Scale.{Scale}
-use Rattle.scales.specs.Value.{valueOf}
+use Rattle.scale.specs.declared.Scale.{Scale}
+use Rattle.scale.specs.Value.{valueOf}
 use Rattle.scales.specs.Channel.{scaleAt}
 use Rattle.line.specs.Group.{byteOfCode, groupCode}
 use Rattle.line.specs.Line.{pointsIn}

@@ -5,11 +5,11 @@ ghost use Prim.Native.Nat.{_+_, _*_, _<_, _≤_};
 ghost use lib.ListN.{length, getD};
 ghost use Rattle.lists.specs.inner.Stores.{written};
 ghost use Rattle.layout.specs.Layout.{validGroups};
-ghost use Rattle.scales.specs.Value.{valueOf};
+ghost use Rattle.scale.specs.Value.{valueOf};
 ghost use Rattle.scales.specs.inner.Fitted.{Fitted};
 ghost use Rattle.line_values.specs.Decode.{valueAt, valuesOf};
 use layout::Layout;
-use scales::Scale;
+use scale::Scale;
 use scales::Scales;
 
 // The value of a byte of the line.

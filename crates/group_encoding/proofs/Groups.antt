@@ -15,10 +15,11 @@ use Rattle.lists.proofs.Counts.{count-le, count-next}
 use Rattle.lists.proofs.Filled.{Filled, filled-all}
 use Rattle.fractions.specs.declared.Clamped.{Clamped}
 use Rattle.layout.specs.declared.Layout.{Layout}
-use Rattle.layout.specs.Layout.{rangeOf, kindOf, validGroups}
+use Rattle.parameters.specs.Parameters.{rangeOf, kindOf}
+use Rattle.layout.specs.Layout.{validGroups}
 use Rattle.layout.proofs.Facts.{groups-valid, groups-say}
-use Rattle.scales.specs.declared.scale.Scale.{Scale}
-use Rattle.scales.specs.Scale.{scaleOf}
+use Rattle.scale.specs.declared.Scale.{Scale}
+use Rattle.scale.specs.Scale.{scaleOf}
 use Rattle.scales.specs.Channel.{scaleAt}
 use Rattle.quantization.specs.declared.code.Coded.the-variants.{Code}
 use Rattle.quantization.specs.Code.{codeOf}

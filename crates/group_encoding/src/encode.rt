@@ -10,16 +10,16 @@ ghost use Rattle.lists.specs.Lists.{tabulate, count};
 ghost use Rattle.layout.specs.Layout.{validGroups};
 ghost use Rattle.quantization.specs.declared.code.Coded.the-variants.{Code};
 ghost use Rattle.quantization.specs.Code.{codeOf};
-ghost use Rattle.scales.specs.declared.scale.Scale.{Scale};
+ghost use Rattle.scale.specs.declared.Scale.{Scale};
 ghost use Rattle.scales.specs.Channel.{scaleAt};
-ghost use Rattle.scales.specs.inner.Floats.{floatScale, Fine};
+ghost use Rattle.float_scale.specs.inner.Floats.{floatScale, Fine};
 ghost use Rattle.scales.specs.inner.Fitted.{Fitted};
 ghost use Rattle.line.specs.inner.Groups.{groupShared, groupsPacked};
 ghost use Rattle.line_values.specs.Encode.{quantizedOf, cutsOf, allNumbers};
 ghost use Rattle.group_encoding.specs.inner.Groups.{groupNumber, countedCut};
+use float_scale::FloatScale;
 use fractions::Clamped;
 use layout::Layout;
-use scales::FloatScale;
 use scales::Scales;
 
 // The code of a number, and whether it was cut.
@@ -109,20 +109,20 @@ pub(crate) fn groups(
 {
     let channel0 = scales.channel0;
     let channel1 = scales.channel1;
-    let brightness = channel0.floats();
-    let difference = channel1.floats();
+    let brightness = float_scale::floats(channel0);
+    let difference = float_scale::floats(channel1);
     let mut all = 0;
     let mut i = 0;
     while i + 8 <= n {
         let turn = eight(layout, brightness, difference, values, i);
         let numbers = turn.numbers;
         all += turn.cuts;
-        packing::store_counted(out, 4, i, numbers, all);
+        point_packing::store_counted(out, 4, i, numbers, all);
         i += 8;
     }
     while i < n {
         let last = joined(layout, brightness, difference, values, i);
-        packing::store_one(out, 4, i, last.number);
+        point_packing::store_one(out, 4, i, last.number);
         all += last.cuts;
         i += 1;
     }

@@ -1,5 +1,5 @@
 // A line of codes, three a point, packed to groups, four bytes Cb, Y', Cr, Y' for two points that share their colour (request
-// A6). A layout that is not of groups is refused: the crate `packing` has the points' own way.
+// A6). A layout that is not of groups is refused: the crate `point_packing` has the points' own way.
 ghost use mathlib.Core.Path.{_≡_};
 ghost use mathlib.Core.Bool.{true};
 ghost use Prim.Native.Nat.{_+_, _*_, _≤_};

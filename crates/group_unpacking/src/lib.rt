@@ -1,5 +1,5 @@
 // A line of groups, four bytes Cb, Y', Cr, Y' for two points that share their colour, unpacked to codes, three a point (request
-// A6). A layout that is not of groups is refused: the crate `unpacking` has the points' own way.
+// A6). A layout that is not of groups is refused: the crate `point_unpacking` has the points' own way.
 ghost use mathlib.Core.Path.{_≡_};
 ghost use Prim.Native.Nat.{_+_, _*_, _≤_};
 ghost use lib.ListN.{length, getD, set};

@@ -11,11 +11,11 @@ use lib.ListN.{length, getD}
 use Rattle.lists.specs.Lists.{tabulate}
 use Rattle.lists.proofs.Lists.{is-tabulate, tabulate-same}
 use Rattle.layout.specs.declared.Layout.{Layout}
-use Rattle.layout.specs.Layout.{grouped, wholeGroups}
-use Rattle.layout.proofs.Facts.{one-each}
+use Rattle.layout.specs.Layout.{grouped, wholeGroups, validPoints}
+use Rattle.layout.proofs.Facts.{one-each, not-grouped}
 use Rattle.line.specs.Group.{groupCode, groupByte, secondColor}
 use Rattle.line.specs.Line.{pointCode, codeAt, pointsIn, codesOf, pointByte, byteAt, bytesFor, packedOf, looked, standsFor, shared}
-use Rattle.line.specs.Answer.{mostPoints, wholePoints, fitting, unpackable, oddPoints, packable}
+use Rattle.line.specs.Answer.{mostPoints, wholePoints, fitting, unpackable, oddPoints, packable, ofPoints}
 use Rattle.line.specs.inner.Points.{pointCodes, pointsPacked}
 
 module _ (l : Layout) (own : grouped l ≡ false) where
@@ -72,3 +72,18 @@ module _ (l : Layout) (own : grouped l ≡ false) where
   unfolding shared
   own-shared d xs =
       sym (is-tabulate d xs (length xs) (λ k. getD xs (standsFor l k) d) refl (λ k h. ap (λ (t : Bool). getD xs (cond t k (k - 3)) d) (sym (own-looked k))))
+
+-- an answer and an output by a layout of points of their own, and by any other
+module _ {A B : Type 0} (l : Layout) (answer other : A) (output kept : B) where
+  pub own-answer : {r : A} {after : B} → validPoints l ≡ true → (r ≡ answer) × (after ≡ output) → (r ≡ ofPoints l answer other) × (after ≡ ofPoints l output kept)
+  own-answer e h =
+      let own = not-grouped l e in
+      (h .0 ∙ sym (ap (λ (t : Bool). cond t other answer) own), h .1 ∙ sym (ap (λ (t : Bool). cond t kept output) own))
+
+  -- a layout of groups, or one that is not valid
+  pub own-other : (grouped l ≡ false → (other ≡ answer) × (kept ≡ output)) → (other ≡ ofPoints l answer other) × (kept ≡ ofPoints l output kept)
+  own-other f = go (grouped l) refl
+    where
+      go : (t : Bool) → grouped l ≡ t → (other ≡ cond t other answer) × (kept ≡ cond t kept output)
+      go true g = (refl, refl)
+      go false g = f g

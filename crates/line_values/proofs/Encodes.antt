@@ -18,15 +18,16 @@ use Rattle.lists.proofs.Counts.{byte-of, count-le}
 use Rattle.fractions.specs.declared.Clamped.{Clamped}
 use Rattle.fractions.specs.Fraction.{clamp}
 use Rattle.layout.specs.declared.Layout.{Layout}
-use Rattle.layout.specs.Layout.{topOf, rangeOf, kindOf, validLayout}
-use Rattle.layout.proofs.Depths.{steps}
+use Rattle.parameters.specs.Parameters.{topOf, rangeOf, kindOf}
+use Rattle.layout.specs.Layout.{validLayout}
+use Rattle.parameters.proofs.Depths.{steps}
 use Rattle.layout.proofs.Facts.{valid-says}
-use Rattle.scales.specs.declared.scale.Scale.{Scale}
+use Rattle.scale.specs.declared.Scale.{Scale}
 use Rattle.quantization.specs.declared.code.Coded.{Coded}
 use Rattle.quantization.specs.declared.code.Coded.the-variants.{Code}
 use Rattle.quantization.specs.Code.{codeOf, codeOr, isCutCode, codeOfValue, unclamped, exact}
 use Rattle.scales.specs.Channel.{scaleAt}
-use Rattle.scales.proofs.Scales.{ends, ends-le}
+use Rattle.scale.proofs.Scales.{ends, ends-le}
 use Rattle.line.specs.Line.{looked, codesWithin}
 use Rattle.line_values.specs.Encode.{valueCode, quantizedOf, valueCut, cutsOf, allNumbers}
 

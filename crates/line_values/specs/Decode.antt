@@ -5,7 +5,7 @@ use lib.Ieee.{Float}
 use lib.ListN.{length}
 use Rattle.lists.specs.Lists.{tabulate, newOrKept}
 use Rattle.layout.specs.declared.Layout.{Layout}
-use Rattle.scales.specs.Value.{valueOf}
+use Rattle.scale.specs.Value.{valueOf}
 use Rattle.scales.specs.Channel.{scaleAt}
 use Rattle.line.specs.declared.LineAnswer.{LineAnswer}
 use Rattle.line.specs.Line.{codeAt, pointsIn}

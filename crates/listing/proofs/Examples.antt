@@ -4,9 +4,8 @@ use mathlib.Core.Path.{_≡_, refl}
 use mathlib.Core.List.{List, [], _∷_, _++_}
 use lib.ListN.{replicate, set}
 use Rattle.layout.specs.Layout.{validLayout}
-use Rattle.card_table.specs.Edition.{leastEdition}
-use Rattle.card_table.specs.Facts.{factsValid}
-use Rattle.card_table.specs.Access.{accessOf, accessUnknown}
+use Rattle.card_table.specs.Facts.{leastEdition, factsValid}
+use Rattle.card_edition.specs.Access.{accessOf, accessUnknown}
 use Rattle.card_reader.specs.Reading.{layoutIn, factsIn, frontRight, endWrong, readCard}
 use Rattle.text_writer.specs.Decimal.{digits, decimal}
 use Rattle.listing.specs.Words.{closedWord, openWord, accessWord}

@@ -10,12 +10,12 @@ use lib.ListN.{length, length-append, getD}
 use Rattle.lists.proofs.Tests.{and-left, and-right, and3, pass, stop}
 use Rattle.layout.specs.Layout.{validLayout}
 use Rattle.card_table.specs.declared.facts.Facts.{Facts}
-use Rattle.card_table.specs.Facts.{largestSide, sideKnown, accessKnown, factsValid, oddWidth}
-use Rattle.card_table.specs.Edition.{newest, editionKnown, leastEdition}
+use Rattle.card_table.specs.Facts.{largestSide, sideKnown, factsValid, oddWidth, leastEdition}
+use Rattle.card_edition.specs.Access.{accessKnown, accessUnknown}
+use Rattle.card_edition.specs.Edition.{newest, editionKnown}
 use Rattle.card_table.specs.Table.{cardSize}
 use Rattle.card_reader.specs.declared.CardReading.{CardReading}
 use Rattle.card_reader.specs.declared.CardReading.the-variants.{Shown, Refused}
-use Rattle.card_table.specs.Access.{accessUnknown}
 use Rattle.card_reader.specs.Reading.{writerOf, factsIn, frontRight, endWrong, readCard}
 use Rattle.card_reader.proofs.Shown.{accepted}
 use Rattle.stack.specs.Stack.{cardsIn, wholeStack}

@@ -2,7 +2,7 @@
 ghost use Rattle.listing.specs.Words.{accessWord};
 ghost use Rattle.listing.specs.List.{itemText, sizeText, numberLine};
 ghost use Rattle.text_writer.specs.Put.{Put};
-use card_table::access;
+use card_edition::access;
 use text_writer::put;
 use text_writer::put_byte;
 use text_writer::put_number;

@@ -5,11 +5,11 @@ ghost use Rattle.text_writer.specs.Put.{Put};
 use crate::field::put_item;
 use crate::field::put_line;
 use crate::field::put_size;
+use card_edition::edition;
 use card_reader::CardReading;
 use card_reader::read;
 use card_table::Card;
 use card_table::Facts;
-use card_table::edition;
 use stack::whole;
 
 // Stores the line of a card's facts.

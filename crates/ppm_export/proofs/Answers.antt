@@ -11,7 +11,7 @@ use Rattle.lists.specs.Lists.{newOrKept}
 use Rattle.lists.proofs.Tests.{pass, stop}
 use Rattle.refusal.specs.Refusal.{outside, wrongLineOrOutput, notOpen}
 use Rattle.card_table.specs.declared.facts.Facts.{Facts}
-use Rattle.card_table.specs.Facts.{opened}
+use Rattle.card_edition.specs.Access.{opened}
 use Rattle.card_reader.specs.declared.CardReading.{CardReading}
 use Rattle.card_reader.specs.declared.CardReading.the-variants.{Shown, Refused as NotShown}
 use Rattle.card_reader.specs.Reading.{readCard}

@@ -1,3 +1,2 @@
-pub mod Pixels
 pub mod Pictures
 pub mod Answers

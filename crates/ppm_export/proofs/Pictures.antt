@@ -3,22 +3,23 @@ use mathlib.Core.Path.{_≡_, sym, ap, ap₂, _∙_, subst}
 use mathlib.Core.Bool.{true, _&&_}
 use mathlib.Core.List.{List, [], _++_, append-nil}
 use Prim.Native.Nat.{ℕ, _+_, _-_, _*_, _/_, _%_, _^_, _≤_, _<_}
-use native.Mathlib.Nat.{mul-comm, mul-assoc, mul-le-mul, mul-div-cancel, div-le-self, div-add-mod, add-zero}
+use native.Mathlib.Nat.{mul-comm, mul-assoc, mul-le-mul, mul-div-cancel, mul-mod-right, div-le-self, div-add-mod, add-zero}
 use native.Mathlib.Omega.{arith}
-use borrow.Author.Tests.{leb-true, eqb-true, not-false}
+use borrow.Author.Tests.{leb-true, eq-eqb, eqb-true, not-false}
 use borrow.Rule.Slice.PartMut.{putMid, post-is}
 use lib.Dec.{eqb, leb, ltb}
 use lib.ListN.{length, getD, take, drop, length-drop}
 use lib.Seq.{take-at, drop-length, length-take-le, length-sets}
 use Rattle.lists.proofs.Tests.{and-left, and-right, and3}
-use Rattle.layout.specs.declared.depth.Depth.{Depth}
-use Rattle.layout.specs.Layout.{depthOf, bitsOf, topOf, pointsEach, validLayout}
+use Rattle.parameters.specs.declared.depth.Depth.{Depth}
+use Rattle.parameters.specs.Parameters.{depthOf, bitsOf, topOf}
+use Rattle.layout.specs.Layout.{pointsEach, validLayout}
 use Rattle.layout.proofs.Facts.{valid-says}
-use Rattle.layout.proofs.Depths.{Steps, steps, known-bits}
-use Rattle.line.specs.Line.{bytesFor}
+use Rattle.parameters.proofs.Depths.{Steps, steps, known-bits}
+use Rattle.line.specs.Line.{pointsIn, bytesFor}
 use Rattle.card_table.specs.declared.facts.Facts.{Facts}
-use Rattle.card_table.specs.Edition.{leastEdition}
-use Rattle.card_table.specs.Facts.{sideKnown, accessKnown, factsValid}
+use Rattle.card_table.specs.Facts.{leastEdition, sideKnown, factsValid}
+use Rattle.card_edition.specs.Access.{accessKnown}
 use Rattle.card_reader.specs.declared.CardReading.the-variants.{Shown}
 use Rattle.card_reader.specs.Reading.{writerOf, factsIn, frontRight, readCard}
 use Rattle.card_reader.proofs.Shown.{accepted}
@@ -29,8 +30,9 @@ use Rattle.ppm_header.proofs.Texts.{header-short}
 use Rattle.ppm_raster.specs.Raster.{codeBytes}
 use Rattle.ppm_raster.proofs.Parts.{few-code-bytes}
 use Rattle.ppm_export.specs.Export.{pointsOf, headerOfFacts, pictureBytes, exportFits}
-use Rattle.ppm_export.specs.inner.Picture.{Known, unitsOf, unitBytes}
-use Rattle.ppm_export.proofs.Pixels.{each-some, unit-small}
+use Rattle.ppm_pixels.specs.Pixels.{pixelsFit}
+use Rattle.ppm_pixels.proofs.Pixels.{each-some}
+use Rattle.ppm_export.specs.inner.Picture.{Known, unitsOf}
 
 -- ---- facts that are known
 
@@ -72,9 +74,6 @@ module _ (f : Facts) (k : Known f) where
   s : Says f
   s = says f (k .facts)
 
-  pub layout-valid : validLayout (f .layout) ≡ true
-  layout-valid = s .valid
-
   -- the depth, looked up
   pub bits-of : {d : Depth} → d ≡ depthOf (f .layout .depth) → bitsOf d ≡ f .layout .depth
   bits-of e = ap bitsOf e ∙ known-bits (f .layout .depth) (valid-says (f .layout) (s .valid) .depth)
@@ -99,12 +98,15 @@ module _ (f : Facts) (k : Known f) where
       let units : unitsOf f ≡ q * f .height = ap (λ (n : ℕ). n / p) (all ∙ mul-comm p (q * f .height)) ∙ mul-div-cancel (q * f .height) (each-some (f .layout) .0) in
       all ∙ ap (λ (u : ℕ). p * u) (sym units)
 
-  -- the bytes of the points
-  pub points-bytes : 3 * codeBytes (f .layout .depth) * pointsOf f ≡ unitBytes (f .layout) * unitsOf f
-  points-bytes =
-      let b = codeBytes (f .layout .depth) in
-      let p = pointsEach (f .layout) in
-      ap₂ _*_ (mul-comm 3 b) whole-units ∙ sym (mul-assoc (b * 3) p (unitsOf f)) ∙ ap (λ (m : ℕ). m * unitsOf f) (mul-assoc b 3 p)
+  -- the points' bytes are those that `ppm_pixels::put` asks for
+  pub pixels-fit : (packed rest : ℕ) → packed ≡ f .layout .bytes * unitsOf f → rest ≡ 3 * codeBytes (f .layout .depth) * pointsOf f → pixelsFit (f .layout) packed rest ≡ true
+  pixels-fit packed rest e r =
+      let l = f .layout in
+      let least = valid-says l (s .valid) .bytes-least in
+      let parts : packed % l .bytes ≡ 0 = ap (λ (x : ℕ). x % l .bytes) e ∙ mul-mod-right (l .bytes) (unitsOf f) in
+      let units : packed / l .bytes ≡ unitsOf f = ap (λ (x : ℕ). x / l .bytes) (e ∙ mul-comm (l .bytes) (unitsOf f)) ∙ mul-div-cancel (unitsOf f) (omega (arith, least)) in
+      let points : pointsOf f ≡ pointsIn l packed = whole-units ∙ ap (λ (u : ℕ). pointsEach l * u) (sym units) in
+      λ i. s .valid i && eq-eqb (packed % l .bytes) 0 parts i && eq-eqb rest (3 * codeBytes (l .depth) * pointsIn l packed) (r ∙ ap (λ (n : ℕ). 3 * codeBytes (l .depth) * n) points) i
 
   pub bytes-small : 3 * codeBytes (f .layout .depth) * pointsOf f ≤ 6 * mostPicturePoints
   bytes-small =
@@ -123,23 +125,17 @@ module _ (f : Facts) (k : Known f) where
   unfolding headerOfFacts
   head-short = header-short (f .width) (f .height) (topOf (f .layout .depth)) (omega (arith, s .width)) (omega (arith, s .height)) top-small
 
-  -- how long it is
-  pub picture-long : pictureBytes f ≡ length (headerOfFacts f) + unitBytes (f .layout) * unitsOf f
-  unfolding pictureBytes
-  picture-long = ap (λ (n : ℕ). length (headerOfFacts f) + n) points-bytes
-
   pub picture-short : pictureBytes f < 2 ^ 32
-  picture-short =
-      let h : unitBytes (f .layout) * unitsOf f ≤ 12 * mostPicturePoints = mul-le-mul (unit-small (f .layout) .2) few-units in
-      omega (arith, h, head-short, picture-long)
+  unfolding pictureBytes
+  picture-short = omega (arith, head-short, bytes-small)
 
   -- lengths that fit
-  pub fit-say : (packed output : ℕ) → exportFits f packed output ≡ true → (packed ≡ f .layout .bytes * unitsOf f) × (output ≡ length (headerOfFacts f) + unitBytes (f .layout) * unitsOf f)
-  unfolding exportFits
+  pub fit-say : (packed output : ℕ) → exportFits f packed output ≡ true → (packed ≡ f .layout .bytes * unitsOf f) × (output ≡ length (headerOfFacts f) + 3 * codeBytes (f .layout .depth) * pointsOf f)
+  unfolding exportFits pictureBytes
   fit-say packed output e =
       let x = eqb packed (bytesFor (f .layout) (pointsOf f)) in
       let y = eqb output (pictureBytes f) in
-      (eqb-true packed (bytesFor (f .layout) (pointsOf f)) (and-left x y e), eqb-true output (pictureBytes f) (and-right x y e) ∙ picture-long)
+      (eqb-true packed (bytesFor (f .layout) (pointsOf f)) (and-left x y e), eqb-true output (pictureBytes f) (and-right x y e))
 
 -- the header at the front of an output, and then the rest
 module _ (text before after rest : List ℕ) (at : ℕ) (fits : length text ≤ length before) (p : Put text 0 before after at) where

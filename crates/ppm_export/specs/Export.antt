@@ -6,23 +6,22 @@ use lib.Dec.{eqb}
 use lib.ListN.{length}
 use Rattle.lists.specs.Lists.{newOrKept}
 use Rattle.refusal.specs.Refusal.{outside, wrongLineOrOutput, notOpen}
-use Rattle.layout.specs.declared.Layout.{Layout}
-use Rattle.layout.specs.declared.range.Range.the-variants.{LegacyFull}
-use Rattle.layout.specs.Layout.{rangeNumber, topOf}
-use Rattle.line.specs.Line.{codesOf, bytesFor}
+use Rattle.parameters.specs.declared.range.Range.the-variants.{LegacyFull}
+use Rattle.parameters.specs.Parameters.{rangeNumber, topOf}
+use Rattle.line.specs.Line.{bytesFor}
 use Rattle.card_table.specs.declared.facts.Facts.{Facts}
-use Rattle.card_table.specs.Facts.{opened}
+use Rattle.card_edition.specs.Access.{opened}
 use Rattle.card_reader.specs.declared.CardReading.{CardReading}
 use Rattle.card_reader.specs.declared.CardReading.the-variants.{Shown, Refused as NotShown}
 use Rattle.card_reader.specs.Reading.{readCard}
-use Rattle.full_rgb.specs.Full.{fullCodes}
 use Rattle.picture.specs.declared.PictureAnswer.{PictureAnswer}
 use Rattle.picture.specs.declared.PictureAnswer.the-variants.{Points, Refused}
 use Rattle.picture.specs.declared.PictureLength.{PictureLength}
 use Rattle.picture.specs.declared.PictureLength.the-variants.{Bytes, Refused as NoLength}
 use Rattle.picture.specs.Answer.{accepted}
 use Rattle.ppm_header.specs.Text.{headerText}
-use Rattle.ppm_raster.specs.Raster.{codeBytes, rasterOf}
+use Rattle.ppm_raster.specs.Raster.{codeBytes}
+use Rattle.ppm_pixels.specs.Pixels.{pixelsOf}
 
 -- ---- the picture of facts
 
@@ -34,11 +33,7 @@ pointsOf f = f .width * f .height
 unfoldable pub headerOfFacts : Facts → List ℕ
 headerOfFacts f = headerText (f .width) (f .height) (topOf (f .layout .depth))
 
--- packed points as full-range R'G'B', in the file's bytes
-unfoldable pub pixelsOf : Layout → List ℕ → List ℕ
-pixelsOf l packed = rasterOf (l .depth) (fullCodes l (codesOf l packed))
-
--- the whole file
+-- the whole file: the header, and then the points
 unfoldable pub pictureOf : Facts → List ℕ → List ℕ
 unfolding headerOfFacts pixelsOf
 pictureOf f packed = headerOfFacts f ++ pixelsOf (f .layout) packed

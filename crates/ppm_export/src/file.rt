@@ -3,13 +3,12 @@ ghost use mathlib.Core.Path.{_≡_};
 ghost use mathlib.Core.Bool.{true};
 ghost use Prim.Native.Nat.{_^_, _<_};
 ghost use lib.ListN.{length};
-ghost use Rattle.layout.specs.Layout.{depthOf};
+ghost use Rattle.parameters.specs.Parameters.{depthOf};
 ghost use Rattle.ppm_export.specs.Export.{pictureBytes, pictureOf, exportFits};
 ghost use Rattle.ppm_export.specs.inner.Picture.{Known, unitsOf};
-use crate::points;
 use card_table::Facts;
-use layout::Depth;
-use layout::KnownDepth;
+use parameters::Depth;
+use parameters::KnownDepth;
 
 // The depth of a number that is known. (Any other is taken for 12, and no card has one.)
 fn depth_of(number: u8) -> Depth
@@ -60,7 +59,6 @@ pub(crate) fn put(facts: Facts, packed: &[u8], out: &mut [u8])
 {
     let layout = facts.layout;
     let depth = depth_of(layout.depth);
-    let n = units(facts);
     let at = ppm_header::put(facts.width, facts.height, depth.top(), out);
-    points::all(layout, depth, packed, &mut out[at..], n);
+    ppm_pixels::put(layout, packed, &mut out[at..]);
 }

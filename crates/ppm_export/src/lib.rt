@@ -2,13 +2,12 @@
 ghost use mathlib.Core.Path.{_≡_};
 ghost use lib.ListN.{length};
 ghost use Rattle.ppm_export.specs.Export.{readForExport, exportAnswer, exportOutput, exportLength};
+use card_edition::access;
 use card_reader::CardReading;
-use card_table::access;
 use picture::PictureAnswer;
 use picture::PictureLength;
 
 mod file;
-mod points;
 
 // The number of the older full range.
 const LEGACY_FULL: u8 = 3;

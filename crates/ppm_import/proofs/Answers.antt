@@ -8,20 +8,20 @@ use lib.Dec.{eqb}
 use lib.ListN.{length}
 use Rattle.lists.specs.Lists.{newOrKept}
 use Rattle.lists.proofs.Tests.{pass, stop, and3}
-use Rattle.layout.specs.declared.depth.Depth.{Depth}
-use Rattle.layout.specs.Layout.{bitsOf, topOf}
+use Rattle.parameters.specs.declared.depth.Depth.{Depth}
+use Rattle.parameters.specs.Parameters.{bitsOf, topOf}
 use Rattle.line.specs.Line.{packedOf, codesWithin}
 use Rattle.card_table.specs.declared.facts.Facts.{Facts}
 use Rattle.card_table.specs.Table.{cardSize, cardBytes}
 use Rattle.picture.specs.declared.PictureAnswer.{PictureAnswer}
 use Rattle.picture.specs.declared.PictureAnswer.the-variants.{Points, Refused}
-use Rattle.picture.specs.declared.PictureLength.the-variants.{Bytes, Refused as NoLength}
 use Rattle.picture.specs.Answer.{accepted}
 use Rattle.ppm_header.specs.declared.Header.{Header}
-use Rattle.ppm_header.specs.declared.Header.the-variants.{Of, Refused as NoHeader}
+use Rattle.ppm_header.specs.declared.Header.the-variants.{Of}
 use Rattle.ppm_header.specs.Header.{readHeader}
 use Rattle.ppm_raster.specs.Raster.{codeBytes}
-use Rattle.ppm_import.specs.Import.{depthOfTop, bytesOfTop, importLayout, importFacts, importEdition, codesAfter, givenKnown, importFits, importRead, importAnswer, cardRead, importCard, packedRead, importPacked, lengthRead, importLength}
+use Rattle.ppm_card.specs.Card.{depthOfTop, bytesOfTop, importLayout, importFacts, givenKnown, importFits}
+use Rattle.ppm_import.specs.Import.{importEdition, codesAfter, importRead, importAnswer, cardRead, importCard, packedRead, importPacked}
 use Rattle.ppm_import.specs.inner.Picture.{answerOf}
 
 -- ---- the rows of a file whose header is read
@@ -128,13 +128,3 @@ module _ (ppm : List ℕ) (item primaries : ℕ) where
 
       pub import-stores : (f : Facts) → f ≡ importFacts primaries (topOf (bitsOf d)) width height item → Stores f
       import-stores f e = subst Stores (sym e) stores-made
-
--- ---- how long
-
-pub length-refused : (ppm : List ℕ) (k : ℕ) → readHeader ppm ≡ NoHeader k → importLength ppm ≡ NoLength k
-unfolding importLength
-length-refused ppm k h = ap lengthRead h
-
-pub length-read : (ppm : List ℕ) (width height top head : ℕ) → readHeader ppm ≡ Of width height top head → importLength ppm ≡ Bytes (bytesOfTop top * (width * height))
-unfolding importLength
-length-read ppm width height top head h = ap lengthRead h

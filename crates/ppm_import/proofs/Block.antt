@@ -12,8 +12,9 @@ use lib.Seq.{length-take-le, take-at, drop-at}
 use Rattle.lists.specs.Lists.{every, newOrKept}
 use Rattle.lists.proofs.Every.{every-take, every-drop}
 use Rattle.layout.specs.declared.Layout.{Layout}
-use Rattle.layout.specs.declared.depth.Depth.{Depth}
-use Rattle.layout.specs.Layout.{bitsOf, topOf, validPoints}
+use Rattle.parameters.specs.declared.depth.Depth.{Depth}
+use Rattle.parameters.specs.Parameters.{bitsOf, topOf}
+use Rattle.layout.specs.Layout.{validPoints}
 use Rattle.layout.proofs.Facts.{not-grouped}
 use Rattle.line.specs.declared.LineAnswer.{LineAnswer}
 use Rattle.line.specs.Line.{packedOf, codesWithin}
@@ -21,9 +22,12 @@ use Rattle.line.specs.Answer.{mostPoints, accepted, packOutput}
 use Rattle.line.proofs.Answers.{fit, pack-points}
 use Rattle.parts.proofs.Parts.{Parts, parts-many, parts-then, Made, made-none, made-more, made-long, made-all, span, lent}
 use Rattle.parts.proofs.Lines.{packed-parts}
-use Rattle.ppm_raster.specs.Raster.{codeBytes, rasterCodes, codesOutput}
-use Rattle.ppm_raster.proofs.Parts.{codes-parts, some-bytes}
-use Rattle.ppm_raster.proofs.Rasters.{taken, holds-so}
+use Rattle.ppm_raster.specs.Raster.{codeBytes}
+use Rattle.ppm_raster.proofs.Parts.{some-bytes}
+use Rattle.ppm_raster.proofs.Rasters.{holds-so}
+use Rattle.ppm_codes.specs.Codes.{rasterCodes, codesOutput}
+use Rattle.ppm_codes.proofs.Parts.{codes-parts}
+use Rattle.ppm_codes.proofs.Codes.{taken}
 use Rattle.ppm_import.specs.inner.Picture.{Ready}
 
 -- a test that all elements of a list pass is passed by those that are made of a part

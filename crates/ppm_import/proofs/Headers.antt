@@ -1,52 +1,35 @@
--- What an accepted header says, and that what the private functions ask then holds. Assumes nothing.
+-- What the private functions ask holds of what is made of an accepted header. Assumes nothing.
 use mathlib.Core.Path.{_≡_, refl, sym, ap, _∙_, subst}
-use mathlib.Core.Bool.{true, not, _&&_}
+use mathlib.Core.Bool.{true, not}
 use mathlib.Core.List.{List}
-use Prim.Native.Nat.{ℕ, _+_, _-_, _*_, _^_, _≤_, _<_}
-use native.Mathlib.Nat.{mul-le-mul}
+use Prim.Native.Nat.{ℕ, _+_, _-_, _*_, _^_, _<_}
 use native.Mathlib.Omega.{arith}
 use borrow.Author.Tests.{leb-true, eq-eqb, not-true}
 use lib.Dec.{leb}
 use lib.ListN.{length, take, drop, length-drop}
 use lib.Seq.{take-all}
 use Rattle.lists.proofs.Tests.{and-left, and-right, and3}
-use Rattle.layout.specs.declared.depth.Depth.{Depth}
-use Rattle.layout.specs.Layout.{bitsOf, topOf, primariesKnown}
+use Rattle.parameters.specs.declared.depth.Depth.{Depth}
+use Rattle.parameters.specs.Parameters.{bitsOf, topOf, primariesKnown}
 use Rattle.line.specs.Line.{codesWithin}
 use Rattle.card_table.specs.declared.facts.Facts.{Facts}
 use Rattle.card_table.specs.Facts.{factsValid, oddWidth}
 use Rattle.card_table.specs.Table.{cardSize, cardBytes}
 use Rattle.card_writer.specs.Writing.{unwritable, validAt, writeOutput}
 use Rattle.card_writer.proofs.Answers.{done, changed}
-use Rattle.ppm_header.specs.declared.Header.the-variants.{Of}
-use Rattle.ppm_header.specs.Header.{largestPictureSide, sideTaken, topKnown, headerKnown, readHeader}
-use Rattle.ppm_header.proofs.Claims.{no-other}
-use Rattle.ppm_header.proofs.Sizes.{known-short}
-use Rattle.ppm_raster.specs.Raster.{codeBytes, rasterCodes}
-use Rattle.ppm_import.specs.Import.{depthOfTop, bytesOfTop, importLayout, importFacts, importEdition, givenKnown}
-use Rattle.picture.specs.Answer.{mostPicturePoints}
+use Rattle.ppm_header.specs.Header.{headerKnown}
+use Rattle.ppm_raster.specs.Raster.{codeBytes}
+use Rattle.ppm_codes.specs.Codes.{rasterCodes}
+use Rattle.ppm_card.specs.Card.{depthOfTop, bytesOfTop, importLayout, importFacts, givenKnown}
+use Rattle.ppm_card.proofs.Depths.{depth-back}
+use Rattle.ppm_card.proofs.Headers.{few-points}
+use Rattle.ppm_import.specs.Import.{importEdition}
 use Rattle.ppm_import.specs.inner.Picture.{Headed, Ready}
-use Rattle.ppm_import.proofs.Layouts.{depth-back, layout-points, writable}
+use Rattle.ppm_import.proofs.Layouts.{layout-points, writable}
 
-side-most : (side : ℕ) → sideTaken side ≡ true → side ≤ largestPictureSide
-side-most side e = leb-true side largestPictureSide (and-right (leb 1 side) (leb side largestPictureSide) e)
-
-pub few-points : (width height top : ℕ) → headerKnown width height top ≡ true → width * height ≤ mostPicturePoints
-few-points width height top k =
-    let s = and3 (sideTaken width) (sideTaken height) (topKnown top) k in
-    mul-le-mul {n₂ = 4096} {m₂ = 4096} (side-most width (s .0)) (side-most height (s .1))
-
-pub top-known : (width height top : ℕ) → headerKnown width height top ≡ true → topKnown top ≡ true
-top-known width height top k = and-right (sideTaken width && sideTaken height) (topKnown top) k
-
-pub header-says : (ppm : List ℕ) (width height top head : ℕ) → readHeader ppm ≡ Of width height top head → (headerKnown width height top ≡ true) × (head ≤ 21)
-header-says ppm width height top head e =
-    let n = no-other ppm width height top head e in
-    (n .0, omega (arith, n .1, known-short width height top (n .0)))
-
--- its facts may be written
-module _ (primaries width height item head : ℕ) (d : Depth) (g : givenKnown item primaries ≡ true) (small : item < 2 ^ 64) (k : headerKnown width height (topOf (bitsOf d)) ≡ true) (short : head ≤ 21) where
-  made : Headed (importFacts primaries (topOf (bitsOf d)) width height item) d head
+-- the facts may be written
+module _ (primaries width height item : ℕ) (d : Depth) (g : givenKnown item primaries ≡ true) (small : item < 2 ^ 64) (k : headerKnown width height (topOf (bitsOf d)) ≡ true) where
+  made : Headed (importFacts primaries (topOf (bitsOf d)) width height item) d
   unfolding importFacts importLayout
   made =
       let top = topOf (bitsOf d) in
@@ -58,11 +41,10 @@ module _ (primaries width height item head : ℕ) (d : Depth) (g : givenKnown it
         depth = depth-back d;
         bytes = refl;
         few = few-points width height top k;
-        short = short;
       }
 
-  pub headed : (f : Facts) → f ≡ importFacts primaries (topOf (bitsOf d)) width height item → Headed f d head
-  headed f e = subst (λ (x : Facts). Headed x d head) (sym e) made
+  pub headed : (f : Facts) → f ≡ importFacts primaries (topOf (bitsOf d)) width height item → Headed f d
+  headed f e = subst (λ (x : Facts). Headed x d) (sym e) made
 
 -- and this is what writing them leaves
 pub card-written : (f : Facts) (before : List ℕ) → validAt importEdition f ≡ true → length before ≡ cardSize → writeOutput importEdition f before ≡ cardBytes importEdition f
@@ -78,7 +60,7 @@ pub rest : (s : List ℕ) (head : ℕ) → take (length s - head) (drop head s) 
 rest s head = take-all (length s - head) (drop head s) (omega (arith, length-drop head s))
 
 -- it is ready to be packed
-pub ready : (f : Facts) (d : Depth) (head : ℕ) (ppm packed : List ℕ) → Headed f d head
+pub ready : (f : Facts) (d : Depth) (head : ℕ) (ppm packed : List ℕ) → Headed f d
     → length ppm ≡ head + 3 * codeBytes (depthOfTop (topOf (bitsOf d))) * (f .width * f .height) → length packed ≡ bytesOfTop (topOf (bitsOf d)) * (f .width * f .height)
     → codesWithin (bitsOf d) (rasterCodes (bitsOf d) (take (length ppm - head) (drop head ppm))) ≡ true
     → Ready (f .layout) d (take (length ppm - head) (drop head ppm)) packed (f .width * f .height)

@@ -1,37 +1,19 @@
 -- The layout and the facts that are made of a header: the card of these facts can be written. Assumes nothing.
-use mathlib.Core.Path.{_≡_, refl, sym, ap, ap₂, _∙_}
+use mathlib.Core.Path.{_≡_, refl, ap}
 use mathlib.Core.Bool.{Bool, true, false, not, cond, _&&_, _||_}
 use Prim.Native.Nat.{ℕ, _*_, _%_, _^_, _≤_, _<_}
 use native.Mathlib.Omega.{arith}
-use borrow.Author.Tests.{eqb-true, ne-eqb, le-leb, lt-ltb}
-use lib.Dec.{eqb, ltb, lit≤}
+use borrow.Author.Tests.{le-leb, lt-ltb}
+use lib.Dec.{eqb, ltb}
 use Rattle.lists.proofs.Tests.{and3}
-use Rattle.layout.specs.declared.depth.Depth.{Depth}
-use Rattle.layout.specs.declared.depth.Depth.the-variants.{Eight, Ten, Twelve}
-use Rattle.layout.specs.Layout.{bitsOf, topOf, primariesKnown, validPoints, validLayout}
+use Rattle.parameters.specs.Parameters.{primariesKnown}
+use Rattle.layout.specs.Layout.{validPoints, validLayout}
 use Rattle.layout.proofs.Facts.{points-valid}
-use Rattle.card_table.specs.Edition.{leastEdition}
-use Rattle.card_table.specs.Facts.{factsValid}
+use Rattle.card_table.specs.Facts.{leastEdition, factsValid}
 use Rattle.card_writer.specs.Writing.{unwritable, validAt}
 use Rattle.ppm_header.specs.Header.{sideTaken, topKnown, headerKnown}
-use Rattle.ppm_import.specs.Import.{depthOfTop, bytesOfTop, importLayout, importFacts, importEdition}
-
--- ---- by the depth
-
--- the depth of its largest code
-pub depth-back : (d : Depth) → depthOfTop (topOf (bitsOf d)) ≡ bitsOf d
-depth-back Eight = refl
-depth-back Ten = refl
-depth-back Twelve = refl
-
-pub few-bytes : (d : Depth) → bytesOfTop (topOf (bitsOf d)) ≤ 5
-few-bytes Eight = lit≤ tt
-few-bytes Ten = lit≤ tt
-few-bytes Twelve = lit≤ tt
-
--- a largest code that a header may have, and that is none of the first two
-pub last-top : (top : ℕ) → topKnown top ≡ true → (top ≡ 255 → ⊥) → (top ≡ 1023 → ⊥) → top ≡ 4095
-last-top top k n m = eqb-true top 4095 (ap₂ (λ (a b : Bool). a || b || eqb top 4095) (sym (ne-eqb top 255 n)) (sym (ne-eqb top 1023 m)) ∙ k)
+use Rattle.ppm_card.specs.Card.{importLayout, importFacts}
+use Rattle.ppm_import.specs.Import.{importEdition}
 
 -- ---- the layout is the paper's
 

@@ -1,12 +1,12 @@
 // The codes of a file as packed points, a block at a time: there is no heap, and the stack is small.
 ghost use mathlib.Core.Path.{_≡_};
-ghost use Rattle.layout.specs.Layout.{bitsOf};
+ghost use Rattle.parameters.specs.Parameters.{bitsOf};
 ghost use Rattle.line.specs.Line.{packedOf};
 ghost use Rattle.line.specs.Answer.{packOutput};
-ghost use Rattle.ppm_raster.specs.Raster.{rasterCodes, codesOutput};
+ghost use Rattle.ppm_codes.specs.Codes.{rasterCodes, codesOutput};
 ghost use Rattle.ppm_import.specs.inner.Picture.{Ready};
-use layout::Depth;
 use layout::Layout;
+use parameters::Depth;
 
 // The most points of a block, and their codes.
 const POINTS: usize = 256;
@@ -17,7 +17,7 @@ const CODES: usize = 768;
 fn block(layout: Layout, depth: Depth, raster: &[u8], codes: &mut [u16], packed: &mut [u8])
     ensures { λ _. ⌜ now (packed .exit) ≡ packOutput layout (codesOutput (bitsOf depth) (now (raster .entry)) (now (codes .entry))) (now (packed .entry)) ⌝ }
 {
-    ppm_raster::take_codes(depth, raster, codes);
+    ppm_codes::take_codes(depth, raster, codes);
     packing::pack_line(layout, codes, packed);
 }
 

@@ -12,11 +12,12 @@ use Rattle.lists.specs.Lists.{newOrKept}
 use Rattle.lists.proofs.Tests.{and-left, and-right}
 use Rattle.refusal.specs.Refusal.{unknownEdition, laterEdition}
 use Rattle.lists.specs.Bytes.{areBytes}
-use Rattle.layout.specs.Layout.{primariesKnown, topOf}
+use Rattle.parameters.specs.Parameters.{primariesKnown, topOf}
 use Rattle.line.specs.Line.{codesOf, packedOf, bytesFor, codesWithin}
 use Rattle.card_table.specs.declared.facts.Facts.{Facts}
-use Rattle.card_table.specs.Edition.{editionKnown, hasAccess, leastEdition}
-use Rattle.card_table.specs.Facts.{closed, opened, withAccess}
+use Rattle.card_edition.specs.Edition.{editionKnown, hasAccess}
+use Rattle.card_table.specs.Facts.{leastEdition, withAccess}
+use Rattle.card_edition.specs.Access.{closed, opened}
 use Rattle.card_reader.specs.declared.CardReading.{CardReading}
 use Rattle.card_reader.specs.declared.CardReading.the-variants.{Shown, Refused as NotShown}
 use Rattle.card_reader.specs.Reading.{readCard}
@@ -39,7 +40,8 @@ use Rattle.ppm_export.specs.Export.{pointsOf, headerOfFacts, pictureOf, picture
 use Rattle.ppm_export.specs.inner.Picture.{Known}
 use Rattle.ppm_export.proofs.Pictures.{shown-known, fit-say}
 use Rattle.ppm_export.proofs.Answers.{not-read, range-3, not-open, is-open as is-read, was-read, points}
-use Rattle.ppm_import.specs.Import.{depthOfTop, bytesOfTop, importLayout, importFacts, importEdition, codesAfter, givenKnown, importFits, importAnswer, cardRead, importCard, packedRead, importPacked, lengthRead, importLength}
+use Rattle.ppm_card.specs.Card.{depthOfTop, bytesOfTop, importLayout, importFacts, givenKnown, importFits, lengthRead, importLength}
+use Rattle.ppm_import.specs.Import.{importEdition, codesAfter, importAnswer, cardRead, importCard, packedRead, importPacked}
 use Rattle.ppm_import.proofs.Layouts.{writable}
 use Rattle.ppm_import.proofs.Answers.{import-outside, import-read, read-points, fits-says}
 use Rattle.ppm_laws.specs.Claims.{OnlyOpen, NothingAtEdition1, ImportsTheCard, ImportsClosed, NoWayBackOut, ImportsWhatWasExported, ReturnsTheCodes, ExportKeeps, ImportKeeps, ReadingFirst, Range3Is9, NotOpenIs17, LengthsOr13, OutsideIs9, NoHeaderIs18, LengthsThenCodes, ExportLengthTold, NoLengthNoExport, ImportLengthTold, NoLengthNoImport}

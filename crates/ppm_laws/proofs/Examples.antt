@@ -10,15 +10,14 @@ use Rattle.layout.specs.Layout.{validPoints, validGroups, validLayout}
 use Rattle.line.specs.Point.{pointOf}
 use Rattle.line.specs.Line.{pointCode, codeAt, codesOf, joined, pointByte, byteAt, packedOf}
 use Rattle.line.specs.Group.{groupCode, groupByte}
-use Rattle.scales.specs.Scale.{scaleOf}
+use Rattle.scale.specs.Scale.{scaleOf}
 use Rattle.quantization.specs.Code.{codeOfValue}
 use Rattle.color_equations.specs.Equations.{primaryOf, greenFrom}
 use Rattle.color_equations.specs.Conversion.{rgbOf}
 use Rattle.color_equations.specs.Line.{convertedAt, convertedOf}
 use Rattle.full_rgb.specs.Full.{stretchedOf, fullOf}
-use Rattle.card_table.specs.Edition.{leastEdition}
-use Rattle.card_table.specs.Facts.{factsValid}
-use Rattle.card_table.specs.Access.{accessOf, accessUnknown}
+use Rattle.card_table.specs.Facts.{leastEdition, factsValid}
+use Rattle.card_edition.specs.Access.{accessOf, accessUnknown}
 use Rattle.card_table.specs.Table.{cardBytes}
 use Rattle.card_reader.specs.Reading.{layoutIn, factsIn, frontRight, endWrong, readCard}
 use Rattle.picture.specs.declared.PictureAnswer.the-variants.{Points, Refused}
@@ -26,9 +25,12 @@ use Rattle.picture.specs.declared.PictureLength.the-variants.{Bytes, Refused as
 use Rattle.text_writer.specs.Decimal.{digits, decimal}
 use Rattle.ppm_header.specs.Text.{sidesText, headerText}
 use Rattle.ppm_header.specs.Header.{leading, begins, headerOf, readHeader}
-use Rattle.ppm_raster.specs.Raster.{rasterByte, rasterBy, codeBy, codesBy}
-use Rattle.ppm_export.specs.Export.{headerOfFacts, pixelsOf, pictureOf, pictureBytes, readForExport, exportFits, exportAnswer, exportOutput, exportLength}
-use Rattle.ppm_import.specs.Import.{importLayout, importFacts, importAnswer, importCard, importPacked, importLength}
+use Rattle.ppm_raster.specs.Raster.{rasterByte, rasterBy}
+use Rattle.ppm_codes.specs.Codes.{codeBy, codesBy}
+use Rattle.ppm_pixels.specs.Pixels.{pixelsOf}
+use Rattle.ppm_export.specs.Export.{headerOfFacts, pictureOf, pictureBytes, readForExport, exportFits, exportAnswer, exportOutput, exportLength}
+use Rattle.ppm_card.specs.Card.{importLayout, importFacts, importLength}
+use Rattle.ppm_import.specs.Import.{importAnswer, importCard, importPacked}
 
 -- ---- exported
 

@@ -11,7 +11,8 @@ use Rattle.picture.specs.declared.PictureAnswer.the-variants.{Points, Refused}
 use Rattle.ppm_header.specs.declared.Header.{Header}
 use Rattle.ppm_header.specs.declared.Header.the-variants.{Of, Refused as NoHeader}
 use Rattle.ppm_header.specs.Header.{readHeader}
-use Rattle.ppm_import.specs.Import.{depthOfTop, codesAfter, givenKnown, importFits, importRead, importAnswer}
+use Rattle.ppm_card.specs.Card.{depthOfTop, givenKnown, importFits}
+use Rattle.ppm_import.specs.Import.{codesAfter, importRead, importAnswer}
 use Rattle.line.specs.Line.{codesWithin}
 
 -- a row that did not apply

@@ -10,10 +10,11 @@ use lib.Seq.{drop-append-seam}
 use Rattle.lists.specs.Bytes.{areBytes}
 use Rattle.lists.proofs.Lists.{length-tabulate}
 use Rattle.layout.specs.declared.Layout.{Layout}
-use Rattle.layout.specs.declared.depth.Depth.{Depth}
-use Rattle.layout.specs.declared.depth.Depth.the-variants.{Eight, Ten, Twelve}
-use Rattle.layout.specs.Layout.{primariesKnown, depthKnown, depthOf, bitsOf, topOf, pointsEach, validLayout}
-use Rattle.layout.proofs.Depths.{known-bits}
+use Rattle.parameters.specs.declared.depth.Depth.{Depth}
+use Rattle.parameters.specs.declared.depth.Depth.the-variants.{Eight, Ten, Twelve}
+use Rattle.parameters.specs.Parameters.{primariesKnown, depthKnown, depthOf, bitsOf, topOf}
+use Rattle.layout.specs.Layout.{pointsEach, validLayout}
+use Rattle.parameters.proofs.Depths.{known-bits}
 use Rattle.layout.proofs.Facts.{valid-says, not-grouped}
 use Rattle.line.specs.Line.{codesOf, packedOf, bytesFor, codesWithin, PackedLine, CodeLine}
 use Rattle.line.proofs.Own.{own-whole, own-shared}
@@ -25,15 +26,20 @@ use Rattle.card_table.specs.declared.facts.Facts.{Facts}
 use Rattle.ppm_header.specs.declared.Header.the-variants.{Of}
 use Rattle.ppm_header.specs.Header.{topKnown, headerKnown, readHeader}
 use Rattle.ppm_header.proofs.Claims.{read-back}
-use Rattle.ppm_raster.specs.Raster.{codeBytes, rasterCodes}
-use Rattle.ppm_raster.proofs.Claims.{codes-back}
-use Rattle.ppm_export.specs.Export.{pointsOf, headerOfFacts, pixelsOf, pictureOf}
+use Rattle.ppm_raster.specs.Raster.{codeBytes}
+use Rattle.ppm_codes.specs.Codes.{rasterCodes}
+use Rattle.ppm_codes.proofs.Claims.{codes-back}
+use Rattle.ppm_pixels.specs.Pixels.{pixelsOf}
+use Rattle.ppm_pixels.proofs.Pixels.{pixels-parts}
+use Rattle.ppm_pixels.proofs.Outputs.{points-bytes}
+use Rattle.ppm_export.specs.Export.{pointsOf, headerOfFacts, pictureOf}
 use Rattle.ppm_export.specs.inner.Picture.{Known, unitsOf}
-use Rattle.ppm_export.proofs.Pixels.{pixels-parts}
-use Rattle.ppm_export.proofs.Pictures.{says, whole-units, points-bytes}
+use Rattle.ppm_export.proofs.Pictures.{says, whole-units}
 use Rattle.ppm_export.proofs.Answers.{points}
-use Rattle.ppm_import.specs.Import.{depthOfTop, importLayout, codesAfter}
-use Rattle.ppm_import.proofs.Layouts.{depth-back, layout-points, layout-valid}
+use Rattle.ppm_card.specs.Card.{depthOfTop, importLayout}
+use Rattle.ppm_card.proofs.Depths.{depth-back}
+use Rattle.ppm_import.specs.Import.{codesAfter}
+use Rattle.ppm_import.proofs.Layouts.{layout-points, layout-valid}
 use Rattle.ppm_laws.proofs.Exported.{exported}
 
 -- the largest code of a depth is one of a header's
@@ -97,7 +103,7 @@ module _ (f : Facts) (packed : List ℕ) (k : Known f) (b : areBytes packed ≡ 
   unfolding pictureOf
   file-long =
       length-append (headerOfFacts f) (pixelsOf l packed)
-      ∙ ap (λ (n : ℕ). head + n) (pixels-parts l valid .long packed (unitsOf f) e ∙ sym (points-bytes f k) ∙ ap (λ (n : ℕ). 3 * codeBytes n * pointsOf f) (sym depth-is))
+      ∙ ap (λ (n : ℕ). head + n) (pixels-parts l valid .long packed (unitsOf f) e ∙ points-bytes l (unitsOf f) ∙ ap₂ (λ (n p : ℕ). 3 * codeBytes n * p) (sym depth-is) (sym (whole-units f k)))
 
   -- and its codes are those that were exported
   pub codes-are : codesAfter top head (pictureOf f packed) ≡ codes

@@ -6,10 +6,10 @@ use mathlib.Core.List.{List}
 use lib.Dec.{eqb, leb}
 use lib.ListN.{length}
 use Rattle.lists.specs.Bytes.{areBytes}
-use Rattle.layout.specs.Layout.{primariesKnown, topOf}
+use Rattle.parameters.specs.Parameters.{primariesKnown, topOf}
 use Rattle.line.specs.Line.{codesOf, codesWithin}
 use Rattle.card_table.specs.declared.facts.Facts.{Facts}
-use Rattle.card_table.specs.Facts.{closed, opened}
+use Rattle.card_edition.specs.Access.{closed, opened}
 use Rattle.card_table.specs.Table.{cardSize, cardBytes}
 use Rattle.card_reader.specs.declared.CardReading.the-variants.{Shown, Refused as NotShown}
 use Rattle.card_reader.specs.Reading.{readCard}
@@ -20,7 +20,8 @@ use Rattle.picture.specs.declared.PictureLength.the-variants.{Bytes, Refused as
 use Rattle.ppm_header.specs.declared.Header.the-variants.{Of, Refused as NoHeader}
 use Rattle.ppm_header.specs.Header.{readHeader}
 use Rattle.ppm_export.specs.Export.{pointsOf, headerOfFacts, exportFits, exportAnswer, exportOutput, exportLength}
-use Rattle.ppm_import.specs.Import.{depthOfTop, bytesOfTop, importLayout, importFacts, codesAfter, givenKnown, importFits, importAnswer, importCard, importPacked, importLength}
+use Rattle.ppm_card.specs.Card.{depthOfTop, bytesOfTop, importLayout, importFacts, givenKnown, importFits, importLength}
+use Rattle.ppm_import.specs.Import.{codesAfter, importAnswer, importCard, importPacked}
 
 -- ---- only open cards are exported
 

@@ -1,3 +1,2 @@
 pub mod Rasters
 pub mod Parts
-pub mod Claims

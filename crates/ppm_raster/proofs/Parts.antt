@@ -1,16 +1,16 @@
--- A raster, part by part: its codes stored, and taken back. Assumes nothing.
-use mathlib.Core.Path.{_≡_, refl, sym, ap, ap₂, _∙_, subst}
+-- A raster, part by part, and the bytes of a code. Assumes nothing.
+use mathlib.Core.Path.{sym, ap, ap₂, _∙_, subst}
 use mathlib.Core.Bool.{Bool, true, false, cond}
 use mathlib.Core.List.{_++_}
 use Prim.Native.Nat.{ℕ, _+_, _-_, _*_, _/_, _%_, _≤_, _<_}
 use native.Mathlib.Nat.{mul-zero, one-mul, mul-add, mul-comm, mul-add-div, mul-add-mod-self-left, div-lt-iff-lt-mul}
 use native.Mathlib.Omega.{arith}
 use lib.Dec.{eqb, lit≤, lit<}
-use lib.ListN.{length, getD, List·getD-append}
+use lib.ListN.{getD, List·getD-append}
 use lib.Seq.{getD-append-add}
 use Rattle.lists.specs.Bytes.{byteOf}
 use Rattle.parts.proofs.Parts.{Parts, parts-table}
-use Rattle.ppm_raster.specs.Raster.{codeBytes, rasterByte, rasterBy, codeBy, codesBy}
+use Rattle.ppm_raster.specs.Raster.{codeBytes, rasterByte, rasterBy}
 
 -- a code becomes b bytes
 pub raster-by : (b : ℕ) → 0 < b → Parts (rasterBy b) 1 b
@@ -20,22 +20,6 @@ raster-by b pos = parts-table 1 b (λ n. b * n) (rasterByte b) (mul-zero b) (λ 
     (λ s t i k e h.
     ap₂ (λ (p r : ℕ). byteOf (getD (s ++ t) p 0) (b - 1 - r)) (mul-add-div pos i k) (mul-add-mod-self-left b i k)
     ∙ ap (λ (v : ℕ). byteOf v (b - 1 - k % b)) (ap (λ (m : ℕ). getD (s ++ t) (m + k / b) 0) (sym (e ∙ one-mul i)) ∙ getD-append-add s t (k / b) 0))
-
--- b bytes become a code
-codes-single : Parts (codesBy 1) 1 1
-unfolding codesBy codeBy
-codes-single = parts-table 1 1 (λ n. n / 1) (codeBy 1) refl (λ i n. omega arith)
-    (λ s t i k e h. List·getD-append s t 0 k (omega (arith, e)))
-    (λ s t i k e h. let z : 1 * i + k ≡ length s + k = omega (arith, e) in ap (λ (m : ℕ). getD (s ++ t) m 0) z ∙ getD-append-add s t k 0)
-
-codes-double : Parts (codesBy 2) 2 1
-unfolding codesBy codeBy
-codes-double = parts-table 2 1 (λ n. n / 2) (codeBy 2) refl (λ i n. omega arith)
-    (λ s t i k e h. ap₂ (λ (x y : ℕ). 256 * x + y) (List·getD-append s t 0 (2 * k) (omega (arith, e))) (List·getD-append s t 0 (2 * k + 1) (omega (arith, e))))
-    (λ s t i k e h.
-    let z : 2 * (1 * i + k) ≡ length s + 2 * k = omega (arith, e) in
-    let w : 2 * (1 * i + k) + 1 ≡ length s + (2 * k + 1) = omega (arith, e) in
-    ap₂ (λ (x y : ℕ). 256 * x + y) (ap (λ (m : ℕ). getD (s ++ t) m 0) z ∙ getD-append-add s t (2 * k) 0) (ap (λ (m : ℕ). getD (s ++ t) m 0) w ∙ getD-append-add s t (2 * k + 1) 0))
 
 -- ---- at n bits
 
@@ -55,10 +39,3 @@ few-code-bytes n = either (eqb n 8)
 
 pub raster-parts : (n : ℕ) → Parts (rasterBy (codeBytes n)) 1 (codeBytes n)
 raster-parts n = raster-by (codeBytes n) (some-bytes n)
-
-pub codes-parts : (n : ℕ) → Parts (codesBy (codeBytes n)) (codeBytes n) 1
-codes-parts n = either (eqb n 8)
-  where
-    either : (t : Bool) → Parts (codesBy (cond t 1 2)) (cond t 1 2) 1
-    either true = codes-single
-    either false = codes-double

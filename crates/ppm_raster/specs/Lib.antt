@@ -1,2 +1,1 @@
 pub mod Raster
-pub mod Claims

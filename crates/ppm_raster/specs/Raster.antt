@@ -1,5 +1,5 @@
 -- Request A7: codes as the bytes of a file, big-endian: one byte each at 8 bits, else two. Assumes nothing.
-use Prim.Native.Nat.{ℕ, _+_, _-_, _*_, _/_, _%_}
+use Prim.Native.Nat.{ℕ, _-_, _*_, _/_, _%_}
 use mathlib.Core.Bool.{Bool, cond, _&&_}
 use mathlib.Core.List.{List}
 use lib.Dec.{eqb}
@@ -26,22 +26,7 @@ rasterBy b cs = tabulate (b * length cs) (rasterByte b cs)
 abbrev pub rasterOf : ℕ → List ℕ → List ℕ
 rasterOf n cs = rasterBy (codeBytes n) cs
 
--- ---- bytes to codes
-
--- code k, of one byte or of two
-unfoldable pub codeBy : ℕ → List ℕ → ℕ → ℕ
-codeBy b s k = cond (eqb b 1) (getD s k 0) (256 * getD s (2 * k) 0 + getD s (2 * k + 1) 0)
-
--- all codes of b bytes each
-unfoldable pub codesBy : ℕ → List ℕ → List ℕ
-unfolding codeBy
-codesBy b s = tabulate (length s / b) (codeBy b s)
-
--- the codes of n bits of a raster
-abbrev pub rasterCodes : ℕ → List ℕ → List ℕ
-rasterCodes n s = codesBy (codeBytes n) s
-
--- ---- outputs
+-- ---- the output
 
 -- so many bytes hold so many codes of b bytes each
 abbrev pub holds : ℕ → ℕ → ℕ → Bool
@@ -53,10 +38,3 @@ storedBy b cs before = newOrKept (holds b (length before) (length cs)) (rasterBy
 
 abbrev pub rasterOutput : ℕ → List ℕ → List ℕ → List ℕ
 rasterOutput n cs before = storedBy (codeBytes n) cs before
-
--- codes after taking them from bytes, likewise
-unfoldable pub takenBy : ℕ → List ℕ → List ℕ → List ℕ
-takenBy b s before = newOrKept (holds b (length s) (length before)) (codesBy b s) before
-
-abbrev pub codesOutput : ℕ → List ℕ → List ℕ → List ℕ
-codesOutput n s before = takenBy (codeBytes n) s before

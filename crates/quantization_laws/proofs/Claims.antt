@@ -12,22 +12,23 @@ use Rattle.lists.proofs.Tests.{and-left, and-right, pass}
 use Rattle.fractions.specs.declared.Clamped.{Clamped}
 use Rattle.fractions.specs.Fraction.{Fraction, clamped}
 use Rattle.fractions.proofs.Integers.{as-pos, times-right, same-sums}
-use Rattle.layout.specs.declared.range.Range.{Range}
-use Rattle.layout.specs.declared.kind.Kind.{Kind}
-use Rattle.layout.specs.declared.kind.Kind.the-variants.{Brightness, Difference}
-use Rattle.layout.specs.Layout.{modelKnown, rangeKnown, rangeOf, depthKnown, channelKnown, topOf, kindOf}
-use Rattle.layout.proofs.Depths.{Steps, steps, known-between}
+use Rattle.parameters.specs.declared.range.Range.{Range}
+use Rattle.parameters.specs.declared.kind.Kind.{Kind}
+use Rattle.parameters.specs.declared.kind.Kind.the-variants.{Brightness, Difference}
+use Rattle.parameters.specs.Parameters.{modelKnown, rangeKnown, rangeOf, depthKnown, channelKnown, topOf, kindOf}
+use Rattle.parameters.proofs.Depths.{Steps, steps, known-between}
 use Rattle.quantization.specs.declared.code.Coded.{Coded}
 use Rattle.quantization.specs.declared.code.Coded.the-variants.{Code as Found, NotANumber}
 use Rattle.quantization.specs.declared.Dequantized.the-variants.{Refused as NoValue}
 use Rattle.quantization.specs.declared.Quantized.{Quantized}
 use Rattle.quantization.specs.declared.Quantized.the-variants.{Code, Refused as NoCode}
-use Rattle.scales.specs.Scale.{scaleOf}
-use Rattle.scales.specs.Value.{fractionOf, valueOf}
+use Rattle.scale.specs.Scale.{scaleOf}
+use Rattle.scale.specs.Value.{fractionOf, valueOf}
 use Rattle.quantization.specs.Code.{codeOfValue, codeOf}
 use Rattle.scales.specs.Channel.{channelKnownAt, channelScale}
 use Rattle.quantization.specs.Answer.{named, dequantized, orRefused, quantized}
-use Rattle.scales.proofs.Scales.{ends, fine}
+use Rattle.scale.proofs.Scales.{ends}
+use Rattle.float_scale.proofs.Fine.{fine}
 use Rattle.quantization_laws.specs.Claims.{Dequantizes, Quantizes, QuantizesOthers, QuantizesWithinEnds, CutsToAnEnd, ZeroIsPlus, Returns, ReturnsEvery, ReturnsExcluded, QuantizingRises}
 use Rattle.quantization_laws.specs.Printed.{printedValue, printedUnclamped, printedLow, printedHigh}
 use Rattle.quantization_laws.specs.Pattern.{patternValue}

@@ -16,13 +16,13 @@ use lib.Ieee.Scale.{grid, round-same}
 use Rattle.lists.proofs.Numbers.{sub-mul}
 use Rattle.fractions.specs.Fraction.{_over_, Same}
 use Rattle.fractions.proofs.Integers.{minus-cases, minus}
-use Rattle.layout.specs.declared.range.Range.{Range}
-use Rattle.layout.specs.declared.kind.Kind.{Kind}
-use Rattle.layout.specs.Layout.{topOf}
-use Rattle.layout.proofs.Depths.{steps}
-use Rattle.scales.specs.declared.scale.Scale.{Scale}
-use Rattle.scales.specs.Scale.{scaleOf}
-use Rattle.scales.specs.Value.{fractionOf, valueOf}
+use Rattle.parameters.specs.declared.range.Range.{Range}
+use Rattle.parameters.specs.declared.kind.Kind.{Kind}
+use Rattle.parameters.specs.Parameters.{topOf}
+use Rattle.parameters.proofs.Depths.{steps}
+use Rattle.scale.specs.declared.Scale.{Scale}
+use Rattle.scale.specs.Scale.{scaleOf}
+use Rattle.scale.specs.Value.{fractionOf, valueOf}
 use Rattle.quantization.specs.Code.{signed, exact}
 use Rattle.quantization.proofs.Codes.{Small}
 use Rattle.quantization_laws.specs.Nearest.{distance, Nearer, NearestTo}

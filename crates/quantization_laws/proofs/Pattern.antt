@@ -8,8 +8,8 @@ use lib.Dec.{T, eqb, eqb→eq}
 use lib.Pow.{pow-pos}
 use lib.Ieee.{nan, inf, binary32, odd, ofFields, ofBits}
 use lib.Ieee.Exact.{odd-sign}
-use Rattle.scales.specs.declared.scale.Scale.{Scale}
-use Rattle.scales.specs.inner.Floats.{strictly}
+use Rattle.scale.specs.declared.Scale.{Scale}
+use Rattle.float_scale.specs.inner.Floats.{strictly}
 use Rattle.quantization.specs.declared.code.Coded.the-variants.{Code}
 use Rattle.quantization.specs.Code.{codeOfValue, codeOf}
 use Rattle.quantization.proofs.Codes.{wholeCode, code-of-fraction, code-of-value, whole-same}

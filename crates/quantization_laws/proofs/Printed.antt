@@ -14,17 +14,17 @@ use Rattle.fractions.specs.Fraction.{Fraction, _over_, Same, _·_, _⊕_, _⊞_
 use Rattle.fractions.proofs.Integers.{as-difference, same, times, times-right, times-times, times-plus, plus-pos}
 use Rattle.fractions.proofs.Floor.{floor-double}
 use Rattle.lists.proofs.Tests.{and-left, and-right}
-use Rattle.layout.specs.declared.range.Range.{Range}
-use Rattle.layout.specs.declared.range.Range.the-variants.{Narrow, Full, LegacyFull}
-use Rattle.layout.specs.declared.kind.Kind.{Kind}
-use Rattle.layout.specs.declared.kind.Kind.the-variants.{Brightness, Difference}
-use Rattle.layout.specs.declared.depth.Depth.{Depth}
-use Rattle.layout.specs.declared.depth.Depth.the-variants.{Eight, Ten, Twelve}
-use Rattle.layout.specs.Layout.{depthKnown, depthOf, bitsOf, stepOf, topOf}
-use Rattle.layout.proofs.Depths.{Steps, known-bits}
-use Rattle.scales.specs.Scale.{lowEnd, highEnd, scaleOf}
-use Rattle.scales.specs.Value.{fractionOf}
-use Rattle.scales.proofs.Scales.{ends}
+use Rattle.parameters.specs.declared.range.Range.{Range}
+use Rattle.parameters.specs.declared.range.Range.the-variants.{Narrow, Full, LegacyFull}
+use Rattle.parameters.specs.declared.kind.Kind.{Kind}
+use Rattle.parameters.specs.declared.kind.Kind.the-variants.{Brightness, Difference}
+use Rattle.parameters.specs.declared.depth.Depth.{Depth}
+use Rattle.parameters.specs.declared.depth.Depth.the-variants.{Eight, Ten, Twelve}
+use Rattle.parameters.specs.Parameters.{depthKnown, depthOf, bitsOf, stepOf, topOf}
+use Rattle.parameters.proofs.Depths.{Steps, known-bits}
+use Rattle.scale.specs.Scale.{lowEnd, highEnd, scaleOf}
+use Rattle.scale.specs.Value.{fractionOf}
+use Rattle.scale.proofs.Scales.{ends}
 use Rattle.quantization.specs.declared.code.Coded.the-variants.{Code}
 use Rattle.quantization.specs.Code.{unclamped, codeOfValue, exact, codeOf}
 use Rattle.quantization_laws.specs.Printed.{half, printedValue, printedUnclamped, printedLow, printedHigh, WithinEnds, nearerEnd, excluded}

@@ -10,21 +10,22 @@ use lib.IntN.{pos}
 use lib.Pow.{pow-pos}
 use lib.Ieee.{binary32}
 use lib.Ieee.Scale.{grid}
-use Rattle.layout.specs.declared.range.Range.{Range}
-use Rattle.layout.specs.declared.kind.Kind.{Kind}
-use Rattle.layout.specs.Layout.{topOf}
-use Rattle.layout.proofs.Depths.{steps}
+use Rattle.parameters.specs.declared.range.Range.{Range}
+use Rattle.parameters.specs.declared.kind.Kind.{Kind}
+use Rattle.parameters.specs.Parameters.{topOf}
+use Rattle.parameters.proofs.Depths.{steps}
 use Rattle.fractions.specs.Fraction.{bounded, isCut, clamped}
 use Rattle.fractions.proofs.Cuts.{outside}
-use Rattle.scales.specs.declared.scale.Scale.{Scale}
+use Rattle.scale.specs.declared.Scale.{Scale}
 use Rattle.quantization.specs.declared.code.Coded.the-variants.{Code}
-use Rattle.scales.specs.Scale.{lowEnd, highEnd, scaleOf}
-use Rattle.scales.specs.Value.{valueOf}
+use Rattle.scale.specs.Scale.{lowEnd, highEnd, scaleOf}
+use Rattle.scale.specs.Value.{valueOf}
 use Rattle.quantization.specs.Code.{codeOf}
-use Rattle.scales.specs.inner.Floats.{strictly}
+use Rattle.float_scale.specs.inner.Floats.{strictly}
 use Rattle.floats.proofs.Sums.{signedSum}
 use Rattle.quantization.proofs.Codes.{Small, wholeCode, code-of-value, quotient-is}
-use Rattle.scales.proofs.Scales.{ends, fine}
+use Rattle.scale.proofs.Scales.{ends}
+use Rattle.float_scale.proofs.Fine.{fine}
 use Rattle.quantization_laws.proofs.Units.{U, Near, unit, unit-lt, kept-near, grid-is, round-value}
 use Rattle.quantization_laws.proofs.Values.{gap, value-rounds}
 

@@ -15,7 +15,7 @@ use Rattle.lists.proofs.Tests.{and-left, and-right, or-cases}
 use Rattle.fractions.specs.Fraction.{Fraction, _over_, bounded}
 use Rattle.fractions.proofs.Integers.{as-difference, same, same-sums, times-right, plus-pos}
 use Rattle.fractions.proofs.Same.{is-plain}
-use Rattle.scales.specs.declared.scale.Scale.{Scale}
+use Rattle.scale.specs.declared.Scale.{Scale}
 use Rattle.quantization.specs.Code.{unclamped, codeOfValue, exact, codeOf}
 use Rattle.quantization.proofs.Codes.{code-is}
 use Rattle.quantization_laws.specs.Order.{AtMost, NoHigher}

@@ -8,10 +8,10 @@ use lib.Dec.{ltb}
 use lib.IntN.{ℤ, pos, _-ℤ_}
 use lib.Ieee.{binary32, round}
 use Rattle.fractions.proofs.Integers.{minus-cases, as-pos, as-neg}
-use Rattle.scales.specs.declared.scale.Scale.{Scale}
-use Rattle.scales.specs.Value.{rounded, valueOf}
+use Rattle.scale.specs.declared.Scale.{Scale}
+use Rattle.scale.specs.Value.{rounded, valueOf}
 use Rattle.quantization.specs.Code.{signed}
-use Rattle.scales.proofs.Quotients.{over-some}
+use Rattle.scale.proofs.Quotients.{over-some}
 
 -- a number with a sign as a difference
 abbrev pub plusPart : Bool → ℕ → ℕ

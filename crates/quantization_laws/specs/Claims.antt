@@ -7,11 +7,11 @@ use lib.IntN.{pos}
 use lib.Ieee.{Float, nan, inf, fin, binary32, ofBits, le}
 use Rattle.fractions.specs.declared.Clamped.{Clamped}
 use Rattle.fractions.specs.Fraction.{clamped}
-use Rattle.layout.specs.Layout.{rangeOf, kindOf, topOf}
+use Rattle.parameters.specs.Parameters.{rangeOf, kindOf, topOf}
 use Rattle.refusal.specs.Refusal.{notANumber}
 use Rattle.quantization.specs.declared.code.Coded.the-variants.{Code as Found}
 use Rattle.quantization.specs.declared.Quantized.the-variants.{Code, Refused}
-use Rattle.scales.specs.declared.scale.Scale.{Scale}
+use Rattle.scale.specs.declared.Scale.{Scale}
 use Rattle.scales.specs.Channel.{channelKnownAt}
 use Rattle.quantization.specs.Code.{codeOf}
 use Rattle.quantization.specs.Answer.{named, dequantized, quantized}

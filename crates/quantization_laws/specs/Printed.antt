@@ -4,11 +4,11 @@ use mathlib.Core.Bool.{Bool, false, cond, not, _&&_}
 use lib.Dec.{eqb, leb, ltb}
 use lib.IntN.{ℤ, pos, _-ℤ_}
 use Rattle.fractions.specs.Fraction.{Fraction, _over_, _·_, _⊕_, _⊞_, _⊟_, plusHalf, floor, halfAway}
-use Rattle.layout.specs.declared.range.Range.{Range}
-use Rattle.layout.specs.declared.range.Range.the-variants.{Narrow, Full, LegacyFull}
-use Rattle.layout.specs.declared.kind.Kind.{Kind}
-use Rattle.layout.specs.declared.kind.Kind.the-variants.{Brightness, Difference}
-use Rattle.layout.specs.Layout.{stepOf, topOf}
+use Rattle.parameters.specs.declared.range.Range.{Range}
+use Rattle.parameters.specs.declared.range.Range.the-variants.{Narrow, Full, LegacyFull}
+use Rattle.parameters.specs.declared.kind.Kind.{Kind}
+use Rattle.parameters.specs.declared.kind.Kind.the-variants.{Brightness, Difference}
+use Rattle.parameters.specs.Parameters.{stepOf, topOf}
 
 -- 0.5
 abbrev pub half : Fraction

@@ -6,12 +6,13 @@ use native.Mathlib.Omega.{arith}
 use borrow.Author.Tests.{lt-ltb}
 use Rattle.lists.proofs.Tests.{pass, stop}
 use Rattle.layout.specs.declared.Layout.{Layout}
-use Rattle.layout.specs.declared.range.Range.{Range}
-use Rattle.layout.specs.Layout.{modelKnown, rangeKnown, rangeOf, depthKnown, channelKnown, kindOf, validLayout}
+use Rattle.parameters.specs.declared.range.Range.{Range}
+use Rattle.parameters.specs.Parameters.{modelKnown, rangeKnown, rangeOf, depthKnown, channelKnown, kindOf}
+use Rattle.layout.specs.Layout.{validLayout}
 use Rattle.layout.proofs.Facts.{valid-says}
-use Rattle.scales.specs.declared.scale.Scale.{Scale}
-use Rattle.scales.specs.declared.scale.ChannelScale.the-variants.{Known, Unknown}
-use Rattle.scales.specs.Scale.{scaleOf}
+use Rattle.scale.specs.declared.Scale.{Scale}
+use Rattle.scales.specs.declared.channel.ChannelScale.the-variants.{Known, Unknown}
+use Rattle.scale.specs.Scale.{scaleOf}
 use Rattle.scales.specs.Channel.{channelKnownAt, channelScale, knownScale}
 
 -- the four tests in the code's order

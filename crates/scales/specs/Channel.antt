@@ -2,11 +2,11 @@
 use Prim.Native.Nat.{ℕ}
 use mathlib.Core.Bool.{Bool, cond, _&&_}
 use Rattle.layout.specs.declared.Layout.{Layout}
-use Rattle.layout.specs.Layout.{modelKnown, rangeKnown, rangeOf, depthKnown, channelKnown, kindOf}
-use Rattle.scales.specs.declared.scale.Scale.{Scale}
-use Rattle.scales.specs.declared.scale.ChannelScale.{ChannelScale}
-use Rattle.scales.specs.declared.scale.ChannelScale.the-variants.{Known, Unknown}
-use Rattle.scales.specs.Scale.{scaleOf}
+use Rattle.parameters.specs.Parameters.{modelKnown, rangeKnown, rangeOf, depthKnown, channelKnown, kindOf}
+use Rattle.scale.specs.declared.Scale.{Scale}
+use Rattle.scales.specs.declared.channel.ChannelScale.{ChannelScale}
+use Rattle.scales.specs.declared.channel.ChannelScale.the-variants.{Known, Unknown}
+use Rattle.scale.specs.Scale.{scaleOf}
 
 -- the paper has this channel, at this range and depth n
 abbrev pub channelKnownAt : ℕ → ℕ → ℕ → ℕ → Bool

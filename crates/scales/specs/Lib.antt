@@ -1,5 +1,3 @@
-pub mod Scale
 pub mod Channel
 pub mod Scales
-pub mod Value
 pub mod inner

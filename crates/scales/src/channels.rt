@@ -2,13 +2,13 @@
 ghost use mathlib.Core.Path.{_≡_};
 ghost use Rattle.layout.specs.Layout.{validPoints, validGroups};
 ghost use Rattle.scales.specs.Scales.{knownScales};
-use crate::scale::Scale;
-use layout::Depth;
-use layout::Kind;
-use layout::KnownDepth;
-use layout::KnownRange;
 use layout::Layout;
-use layout::Range;
+use parameters::Depth;
+use parameters::Kind;
+use parameters::KnownDepth;
+use parameters::KnownRange;
+use parameters::Range;
+use scale::Scale;
 
 pub struct Scales {
     pub channel0: Scale,

@@ -1,12 +1,7 @@
-// How codes stand for values: the scale of each range, depth and kind, worked out once for a line (document 01, "Codes and
-// floats").
+// The scales of a channel, and of a layout's three channels, by the paper's numbers (document 01, "Codes and floats").
+mod channel;
 mod channels;
-mod code;
-mod scale;
 
+pub use channel::ChannelScale;
 pub use channels::LayoutScales;
 pub use channels::Scales;
-pub use code::FloatScale;
-pub use scale::ChannelScale;
-pub use scale::Rounding;
-pub use scale::Scale;

@@ -15,7 +15,8 @@ use Rattle.lists.proofs.Every.{every-of}
 use Rattle.lists.proofs.Lists.{length-tabulate, getD-tabulate}
 use Rattle.lists.proofs.Tests.{pass, stop}
 use Rattle.layout.specs.declared.Layout.{Layout}
-use Rattle.layout.specs.Layout.{topOf, wholeGroups, validGroups, validLayout}
+use Rattle.parameters.specs.Parameters.{topOf}
+use Rattle.layout.specs.Layout.{wholeGroups, validGroups, validLayout}
 use Rattle.layout.proofs.Facts.{one-of-two, not-grouped, groups-say, groups-valid, odd-of-groups}
 use Rattle.line.specs.declared.LineAnswer.the-variants.{Points}
 use Rattle.line.specs.Group.{groupCode, groupByte}

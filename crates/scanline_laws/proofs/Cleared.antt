@@ -17,7 +17,8 @@ use Rattle.lists.proofs.Bytes.{bytesOf-little, getD-bytesOf}
 use Rattle.lists.proofs.Every.{every-at, every-of}
 use Rattle.lists.proofs.Lists.{length-tabulate, getD-tabulate, tabulate-same}
 use Rattle.layout.specs.declared.Layout.{Layout}
-use Rattle.layout.specs.Layout.{topOf, offsetOf}
+use Rattle.parameters.specs.Parameters.{topOf}
+use Rattle.layout.specs.Layout.{offsetOf}
 use Rattle.layout.proofs.Facts.{Points as PointFacts, points-say}
 use Rattle.line.specs.Point.{bits, pointOf, inPlace}
 use Rattle.line.specs.Line.{joined, pointCode, pointByte, codesWithin}

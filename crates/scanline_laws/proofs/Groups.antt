@@ -14,7 +14,8 @@ use Rattle.lists.specs.Bytes.{areBytes, byteOf}
 use Rattle.lists.proofs.Every.{every-at}
 use Rattle.lists.proofs.Lists.{length-tabulate, getD-tabulate, is-tabulate, tabulate-same}
 use Rattle.layout.specs.declared.Layout.{Layout}
-use Rattle.layout.specs.Layout.{topOf, validGroups}
+use Rattle.parameters.specs.Parameters.{topOf}
+use Rattle.layout.specs.Layout.{validGroups}
 use Rattle.layout.proofs.Facts.{groups-say, groups-grouped}
 use Rattle.line.specs.Group.{byteOfCode, codeOfByte, groupCode, groupByte, secondColor}
 use Rattle.line.specs.Line.{codesWithin}

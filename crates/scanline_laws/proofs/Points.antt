@@ -6,7 +6,8 @@ use Prim.Native.Nat.{ℕ, _*_}
 use lib.ListN.{length}
 use Rattle.lists.specs.Bytes.{areBytes}
 use Rattle.layout.specs.declared.Layout.{Layout}
-use Rattle.layout.specs.Layout.{topOf, validPoints}
+use Rattle.parameters.specs.Parameters.{topOf}
+use Rattle.layout.specs.Layout.{validPoints}
 use Rattle.layout.proofs.Facts.{not-grouped}
 use Rattle.line.specs.Line.{codesWithin, PackedLine, CodeLine}
 use Rattle.line.proofs.Own.{own-bytes, own-shared}

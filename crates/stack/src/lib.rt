@@ -3,8 +3,8 @@ ghost use mathlib.Core.Path.{_≡_};
 ghost use denote.Ref.{ptr};
 ghost use Rattle.stack.specs.Stack.{wholeStack};
 ghost use Rattle.stack.specs.Finding.{located, part, placed};
+use card_edition::edition;
 use card_table::Card;
-use card_table::edition;
 
 // Where a card is, counted in cards from 0, or the refusal's number.
 pub enum Found {

@@ -3,10 +3,10 @@
 ghost use mathlib.Core.Path.{_≡_};
 ghost use Rattle.stack.specs.Finding.{located};
 ghost use Rattle.card_finder.specs.Number.{refusalOf};
+use card_edition::edition;
 use card_finder::find_card;
 use card_reader::CardReading;
 use card_reader::read;
-use card_table::edition;
 use libc::STDIN_FILENO;
 use libc::STDOUT_FILENO;
 use stack::find;

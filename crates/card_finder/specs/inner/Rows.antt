@@ -3,7 +3,7 @@ use Prim.Native.Nat.{ℕ}
 use mathlib.Core.Bool.{cond, not}
 use lib.Dec.{eqb}
 use Rattle.refusal.specs.Refusal.{wrongLength, unknownEdition, noItem}
-use Rattle.card_table.specs.Edition.{editionKnown}
+use Rattle.card_edition.specs.Edition.{editionKnown}
 use Rattle.card_table.specs.Table.{cardSize}
 use Rattle.stack.specs.Stack.{wholeStack}
 

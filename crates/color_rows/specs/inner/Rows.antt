@@ -1,24 +1,26 @@
 -- The code's own arithmetic, on natural numbers and then in f64. A reader need not believe it: crates/color_rows_laws shows that it is `ycbcrOf` and `rgbOf`. Assumes nothing.
-use Prim.Native.Nat.{ℕ, _+_, _-_, _*_, _^_}
+use Prim.Native.Nat.{ℕ, _+_, _-_, _*_}
 use lib.IntN.{pos, _-ℤ_}
 use lib.Ieee.{Float, binary64, ofInt}
-use Rattle.layout.specs.declared.range.Range.{Range}
-use Rattle.layout.specs.declared.range.Range.the-variants.{Narrow, Full, LegacyFull}
-use Rattle.layout.specs.declared.kind.Kind.the-variants.{Brightness, Difference}
-use Rattle.layout.specs.Layout.{bitsOf, stepOf, topOf}
-use Rattle.scales.specs.declared.scale.Scale.{Scale}
-use Rattle.scales.specs.Scale.{scaleOf}
+use Rattle.parameters.specs.declared.range.Range.{Range}
+use Rattle.parameters.specs.declared.range.Range.the-variants.{Narrow, Full, LegacyFull}
+use Rattle.parameters.specs.declared.kind.Kind.the-variants.{Brightness, Difference}
+use Rattle.parameters.specs.Parameters.{bitsOf}
+use Rattle.scale.specs.declared.Scale.{Scale}
+use Rattle.scale.specs.Scale.{scaleOf}
 use Rattle.floats.specs.inner.Floor.{inFloats}
-use Rattle.scales.specs.inner.Floats.{endsOf}
+use Rattle.float_scale.specs.inner.Floats.{endsOf}
 use Rattle.color_equations.specs.declared.weights.Weights.{Weights}
 use Rattle.color_equations.specs.Weights.{greenOf}
 use Rattle.color_line.specs.declared.row.FloatRow.{FloatRow}
 use Rattle.color_line.specs.declared.row.FloatRows.{FloatRows}
+use Rattle.color_numbers.specs.declared.Numbers.{Numbers}
+use Rattle.color_numbers.specs.declared.spread.Spread.{Spread}
+use Rattle.color_numbers.specs.inner.Spread.{spreadOf}
+use Rattle.color_numbers.specs.inner.Green.{ratioOf}
 use Rattle.color_rows.specs.declared.linear.Value.{Value}
 use Rattle.color_rows.specs.declared.linear.Row.{Row}
-use Rattle.color_rows.specs.declared.numbers.Numbers.{Numbers}
-use Rattle.color_rows.specs.declared.rgb.Spread.{Spread}
-use Rattle.color_rows.specs.inner.Green.{ratioOf, narrowGreenValue}
+use Rattle.color_rows.specs.inner.Green.{narrowGreenValue}
 
 -- ---- rows
 
@@ -94,15 +96,6 @@ ycbcrRows m =
     record { first = floatsOf (codeRow (lumaValue (m .weights) rgb) y); second = floatsOf (codeRow (cbValue (m .weights) rgb) c); third = floatsOf (codeRow (crValue (m .weights) rgb) c) }
 
 -- ---- to R'G'B'
-
--- Y' is luma (y - black) / whole, and Cb chroma (cb - neutral) / whole; whole is the least common multiple of both spans, which in a full range are one
-abbrev pub fullSpread : (span neutral : ℕ) → Spread
-fullSpread span neutral = record { luma = 1; chroma = 1; whole = span; black = 0; neutral = neutral }
-
-abbrev pub spreadOf : Range → ℕ → Spread
-spreadOf Narrow n = record { luma = 224; chroma = 219; whole = 49056 * stepOf n; black = 16 * stepOf n; neutral = 128 * stepOf n }
-spreadOf Full n = fullSpread (topOf n) (2 ^ (n - 1))
-spreadOf LegacyFull n = fullSpread (2 ^ n) (2 ^ (n - 1))
 
 unfoldable pub redValue : Weights → Spread → Value
 redValue w s =

@@ -2,6 +2,7 @@
 use borrow.Author.Needs.{needs}
 use mathlib.Core.Path.{_≡_, refl, sym, _∙_}
 use mathlib.Core.Bool.{false}
+use Rattle.lists.proofs.Tests.{pass}
 use Rattle.layout.specs.Layout.{grouped}
 use Rattle.decoding.proofs.One.{no-point, point-decoded, point-refused}
 use Rattle.decoding.proofs.decode_point.Statement.{statement}
@@ -21,7 +22,7 @@ slice-aggregate-decode-points : tie.Need-slice-aggregate-decode-points
 slice-aggregate-decode-points c = refl
 
 decode-points-requires : tie.Need-decode-points-requires
-decode-points-requires c κs = own (c .before)
+decode-points-requires c κs = search needs
 
 enum-told : tie.Need-enum-told
 enum-told c = search needs
@@ -43,13 +44,13 @@ returns-2 c =
     let d = c .before .before .before .decode-points in
     let e = c .before .before .before .before .before in
     let a = e .before .before .before .args in
-    point-decoded (a .layout) (own e) (a .bytes .now) _ _ _ (sym (c .enum-told .given .1) ∙ d .ensures .0) (d .ensures .1)
+    point-decoded (a .layout) (own e) (a .bytes .now) _ _ _ (sym (c .enum-told .given .1) ∙ d .ensures .0 ∙ pass _ (own e) refl) (d .ensures .1 ∙ pass _ (own e) refl)
 
 returns-3 : tie.Need-returns-3
 returns-3 c =
     let e = c .before .before .before .before .before .before in
     let a = e .before .before .before .args in
-    point-refused (a .layout) (own e) (a .bytes .now) _ (sym (c .before .number .given .1) ∙ c .before .before .before .before .decode-points .ensures .0)
+    point-refused (a .layout) (own e) (a .bytes .now) _ (sym (c .before .number .given .1) ∙ c .before .before .before .before .decode-points .ensures .0 ∙ pass _ (own e) refl)
 
 pub decode-point-spec : {M : Type 1} → statement M
 decode-point-spec =

@@ -6,7 +6,7 @@ use lib.Dec.{eqb}
 use borrow.Author.Tests.{eq-eqb, ne-eqb, not-true, not-false}
 use Rattle.lists.proofs.Tests.{pass, stop}
 use Rattle.layout.specs.Layout.{bytesKnown}
-use Rattle.layout.proofs.Known.{depth-bits, depth-unknown}
+use Rattle.parameters.proofs.Known.{depth-bits, depth-unknown}
 use Rattle.descriptor_samples.specs.Samples.{samplesRight, rangeIn}
 use Rattle.descriptor_layout.proofs.Right.{right-says, length-lt}
 use Rattle.descriptor_layout.proofs.Answers.{refused-5, refused-6, accepted-as}

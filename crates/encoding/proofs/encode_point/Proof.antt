@@ -25,7 +25,7 @@ slice-aggregate-encode-points : tie.Need-slice-aggregate-encode-points
 slice-aggregate-encode-points c = refl
 
 encode-points-requires : tie.Need-encode-points-requires
-encode-points-requires c κs = own (c .before .before)
+encode-points-requires c κs = search needs
 
 returns : tie.Need-returns
 unfolding encodePointAnswer
@@ -42,7 +42,7 @@ returns-2 c =
     let a = c .before .before .before .before .before .before .before .before .args in
     let same = sym (pass (Refused 9) e refl) in
     let packed = packedOf (a .layout) (quantizedOf (a .layout) (pointValues (a .point))) in
-    (r .0 ∙ same, r .1 ∙ ap (λ (x : ClampedAnswer). newOrKept (clampedAccepted x) packed (a .out .now)) same)
+    (r .0 ∙ pass _ e refl ∙ same, r .1 ∙ pass _ e refl ∙ ap (λ (x : ClampedAnswer). newOrKept (clampedAccepted x) packed (a .out .now)) same)
 
 pub encode-point-spec : {M : Type 1} → statement M
 encode-point-spec =

@@ -4,7 +4,8 @@ use mathlib.Core.Path.{_≡_, sym, ap, _∙_}
 use mathlib.Core.Bool.{true, not}
 use borrow.Author.Tests.{eq-eqb, ne-eqb, not-false}
 use Rattle.lists.proofs.Tests.{and-left, stop, pass}
-use Rattle.layout.specs.Layout.{channelKnown, validPoints}
+use Rattle.parameters.specs.Parameters.{channelKnown}
+use Rattle.layout.specs.Layout.{validPoints}
 use Rattle.field.specs.declared.field.Field.{Field}
 use Rattle.field.specs.declared.FieldCode.the-variants.{Code}
 use Rattle.field.specs.Answer.{fieldKnown, codeAnswer}

@@ -6,9 +6,9 @@ use lib.Dec.{eqb}
 use lib.ListN.{length}
 use Rattle.lists.specs.Lists.{newOrKept}
 use Rattle.layout.specs.declared.Layout.{Layout}
-use Rattle.layout.specs.declared.depth.Depth.{Depth}
-use Rattle.layout.specs.declared.depth.Depth.the-variants.{Eight, Ten, Twelve}
-use Rattle.layout.specs.Layout.{bitsOf, topOf}
+use Rattle.parameters.specs.declared.depth.Depth.{Depth}
+use Rattle.parameters.specs.declared.depth.Depth.the-variants.{Eight, Ten, Twelve}
+use Rattle.parameters.specs.Parameters.{bitsOf, topOf}
 use Rattle.color_equations.specs.Conversion.{pick}
 use Rattle.color_equations.specs.Line.{Converter, convertible, convertedOf}
 use Rattle.color_line.specs.inner.Rows.{rowsCode, alike}

@@ -1,14 +1,17 @@
 -- `ppm_import::import` meets its contract, row by row. Assumes nothing.
-use Prim.Native.Nat.{ℕ, _≤_}
+use Prim.Native.Nat.{ℕ}
 use mathlib.Core.Path.{_≡_, sym, ap, _∙_}
 use mathlib.Core.Bool.{true}
 use borrow.Author.Tests.{not-true, not-false}
 use lib.ListN.{length}
-use Rattle.layout.specs.Layout.{bitsOf, topOf}
+use Rattle.parameters.specs.declared.depth.Depth.{Depth}
+use Rattle.parameters.specs.Parameters.{bitsOf, topOf}
 use Rattle.ppm_header.specs.declared.Header.the-variants.{Of, Refused as NoHeader}
 use Rattle.ppm_header.specs.Header.{headerKnown, readHeader}
-use Rattle.ppm_import.specs.Import.{givenKnown}
-use Rattle.ppm_import.proofs.Headers.{top-known, header-says, headed}
+use Rattle.ppm_card.specs.Card.{givenKnown}
+use Rattle.ppm_card.proofs.Depths.{top-back}
+use Rattle.ppm_card.proofs.Headers.{top-known, header-known}
+use Rattle.ppm_import.proofs.Headers.{headed}
 use Rattle.ppm_import.proofs.Answers.{import-outside, import-read, import-refuses, import-stores}
 use borrow.Author.Needs.{needs}
 use Rattle.ppm_import.proofs.import.Statement.{statement}
@@ -21,12 +24,15 @@ given c = sym (c .before .given-known .ensures) ∙ not-false _ (c .if1 .left)
 read-so : (c : tie.After-known-told) → let k = c .before in let v = k .width .given .0 in readHeader (k .before .before .before .before .before .before .before .before .args .ppm .now) ≡ Of (v .0) (v .1 .0) (v .1 .1 .0) (v .1 .1 .1 .0)
 read-so c = sym (c .before .before .before .read .ensures) ∙ c .before .width .given .1
 
-known : (c : tie.After-known-told) → let v = c .before .width .given .0 in (headerKnown (v .0) (v .1 .0) (v .1 .1 .0) ≡ true) × (v .1 .1 .1 .0 ≤ 21)
-known c = let k = c .before in let v = k .width .given .0 in header-says (k .before .before .before .before .before .before .before .before .args .ppm .now) (v .0) (v .1 .0) (v .1 .1 .0) (v .1 .1 .1 .0) (read-so c)
+known : (c : tie.After-known-told) → let v = c .before .width .given .0 in headerKnown (v .0) (v .1 .0) (v .1 .1 .0) ≡ true
+known c = let k = c .before in let v = k .width .given .0 in header-known (k .before .before .before .before .before .before .before .before .args .ppm .now) (v .0) (v .1 .0) (v .1 .1 .0) (v .1 .1 .1 .0) (read-so c)
 
--- with the largest code of the depth that was made
+-- the depth that was made has its largest code
+top-so : (c : tie.After-depth-of-top) → topOf (bitsOf (c .depth-of-top .result)) ≡ c .before .before .width .given .0 .1 .1 .0
+top-so c = let v = c .before .before .width .given .0 in ap (λ (d : Depth). topOf (bitsOf d)) (c .depth-of-top .ensures) ∙ top-back (v .1 .1 .0) (top-known (v .0) (v .1 .0) (v .1 .1 .0) (known (c .before)))
+
 header : (c : tie.After-depth-of-top) → let k = c .before .before in let v = k .width .given .0 in readHeader (k .before .before .before .before .before .before .before .before .args .ppm .now) ≡ Of (v .0) (v .1 .0) (topOf (bitsOf (c .depth-of-top .result))) (v .1 .1 .1 .0)
-header c = let v = c .before .before .width .given .0 in read-so (c .before) ∙ ap (λ (t : ℕ). Of (v .0) (v .1 .0) t (v .1 .1 .1 .0)) (sym (c .depth-of-top .ensures))
+header c = let v = c .before .before .width .given .0 in read-so (c .before) ∙ ap (λ (t : ℕ). Of (v .0) (v .1 .0) t (v .1 .1 .1 .0)) (sym (top-so c))
 
 given-known-requires : tie.Need-given-known-requires
 given-known-requires c κs = search needs
@@ -44,7 +50,7 @@ enum-known-width : tie.Need-enum-known-width
 enum-known-width c = search needs
 
 depth-of-top-requires : tie.Need-depth-of-top-requires
-depth-of-top-requires c κs = let v = c .before .width .given .0 in top-known (v .0) (v .1 .0) (v .1 .1 .0) (known c .0)
+depth-of-top-requires c κs = search needs
 
 facts-of-requires : tie.Need-facts-of-requires
 facts-of-requires c κs = search needs
@@ -57,8 +63,8 @@ take-requires c κs =
     let e = k .before .before .before .before in
     let s = e .before .before .before .before .before in
     let v = k .before .width .given .0 in
-    let ok = ap (headerKnown (v .0) (v .1 .0)) (d .depth-of-top .ensures) ∙ known k .0 in
-    headed (s .args .primaries) (v .0) (v .1 .0) (s .args .item) (v .1 .1 .1 .0) (d .depth-of-top .result) (given e) (s .fits .item .fits) ok (known k .1) (m .facts-of .result) (m .facts-of .ensures)
+    let ok = ap (headerKnown (v .0) (v .1 .0)) (top-so d) ∙ known k in
+    headed (s .args .primaries) (v .0) (v .1 .0) (s .args .item) (d .depth-of-top .result) (given e) (s .fits .item .fits) ok (m .facts-of .result) (m .facts-of .ensures)
 
 enum-known-number : tie.Need-enum-known-number
 enum-known-number c = search needs

@@ -6,12 +6,14 @@ use mathlib.Core.List.{List}
 use native.Mathlib.Omega.{arith}
 use borrow.Author.Tests.{not-true, not-false}
 use lib.ListN.{length}
-use Rattle.layout.specs.Layout.{bitsOf, topOf}
+use Rattle.parameters.specs.Parameters.{bitsOf, topOf}
 use Rattle.line.specs.Line.{packedOf, codesWithin}
 use Rattle.card_table.specs.Table.{cardSize}
-use Rattle.ppm_raster.specs.Raster.{codeBytes, rasterCodes}
-use Rattle.ppm_import.specs.Import.{depthOfTop, bytesOfTop, codesAfter, importFits}
-use Rattle.ppm_import.proofs.Layouts.{depth-back}
+use Rattle.ppm_raster.specs.Raster.{codeBytes}
+use Rattle.ppm_codes.specs.Codes.{rasterCodes}
+use Rattle.ppm_card.specs.Card.{depthOfTop, bytesOfTop, importFits}
+use Rattle.ppm_card.proofs.Depths.{depth-back}
+use Rattle.ppm_import.specs.Import.{codesAfter}
 use Rattle.ppm_import.proofs.Headers.{card-written, rest, ready}
 use Rattle.ppm_import.proofs.Answers.{read-unfit, read-high, read-points, fits-says, refuses, counts}
 use borrow.Author.Needs.{needs}

@@ -5,25 +5,27 @@ use mathlib.Core.Bool.{true}
 use mathlib.Core.List.{List}
 use lib.ListN.{length}
 use Rattle.layout.specs.declared.Layout.{Layout}
-use Rattle.layout.specs.declared.depth.Depth.{Depth}
-use Rattle.layout.specs.Layout.{bitsOf, topOf, validPoints}
+use Rattle.parameters.specs.declared.depth.Depth.{Depth}
+use Rattle.parameters.specs.Parameters.{bitsOf, topOf}
+use Rattle.layout.specs.Layout.{validPoints}
 use Rattle.line.specs.Line.{codesWithin}
 use Rattle.card_table.specs.declared.facts.Facts.{Facts}
 use Rattle.card_writer.specs.Writing.{validAt}
 use Rattle.picture.specs.declared.PictureAnswer.{PictureAnswer}
 use Rattle.picture.specs.Answer.{mostPicturePoints}
 use Rattle.ppm_header.specs.declared.Header.the-variants.{Of}
-use Rattle.ppm_raster.specs.Raster.{codeBytes, rasterCodes}
-use Rattle.ppm_import.specs.Import.{bytesOfTop, importEdition, importRead}
+use Rattle.ppm_raster.specs.Raster.{codeBytes}
+use Rattle.ppm_codes.specs.Codes.{rasterCodes}
+use Rattle.ppm_card.specs.Card.{bytesOfTop}
+use Rattle.ppm_import.specs.Import.{importEdition, importRead}
 
--- facts that are made of a header of so many bytes, and their depth
-pub record Headed (f : Facts) (d : Depth) (head : ℕ) : Type 0 where
+-- facts that are made of a header, and their depth
+pub record Headed (f : Facts) (d : Depth) : Type 0 where
   pub writable : validAt importEdition f ≡ true
   pub points : validPoints (f .layout) ≡ true
   pub depth : f .layout .depth ≡ bitsOf d
   pub bytes : f .layout .bytes ≡ bytesOfTop (topOf (bitsOf d))
   pub few : f .width * f .height ≤ mostPicturePoints
-  pub short : head ≤ 21
 
 -- the answer by that header
 abbrev pub answerOf : Facts → Depth → ℕ → List ℕ → List ℕ → List ℕ → PictureAnswer

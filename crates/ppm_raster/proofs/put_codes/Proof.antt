@@ -3,7 +3,7 @@ use borrow.Author.Needs.{needs}
 use denote.Ref.{now}
 use mathlib.Core.Path.{sym, ap, _∙_}
 use Prim.Native.Nat.{ℕ}
-use Rattle.layout.specs.Layout.{bitsOf}
+use Rattle.parameters.specs.Parameters.{bitsOf}
 use Rattle.ppm_raster.specs.Raster.{storedBy}
 use Rattle.ppm_raster.proofs.Rasters.{two-bytes}
 use Rattle.ppm_raster.proofs.put_codes.Statement.{statement}

@@ -7,8 +7,8 @@ use Rattle.card_reader.proofs.front.front_right.Tie as tie
 shared-slice-read-result : tie.Need-shared-slice-read-result
 shared-slice-read-result c = search needs
 
-least-requires : tie.Need-least-requires
-least-requires c κs = search needs
+least-edition-requires : tie.Need-least-edition-requires
+least-edition-requires c κs = search needs
 
 shared-slice-read-result-2 : tie.Need-shared-slice-read-result-2
 shared-slice-read-result-2 c = search needs
@@ -26,14 +26,14 @@ returns : tie.Need-returns
 unfolding frontRight
 returns c =
     let v = c .before in
-    rw (v .valid .ensures, v .before .before .before .least .ensures)
+    rw (v .valid .ensures, v .before .before .before .least-edition .ensures)
 
 pub front-right-spec : {M : Type 1} → statement M
 front-right-spec =
     tie.close
     (tie.spec
     shared-slice-read-result
-    least-requires
+    least-edition-requires
     shared-slice-read-result-2
     shared-slice-read-result-3
     valid-requires

@@ -1,11 +1,14 @@
 -- `color_rows::green_row` meets its contract, out of each range. Assumes nothing.
 use borrow.Author.Needs.{needs}
 use mathlib.Core.Path.{sym, ap, _∙_, subst}
-use Rattle.layout.specs.Layout.{bitsOf}
-use Rattle.layout.proofs.Depths.{depth-steps}
+use Rattle.parameters.specs.Parameters.{bitsOf}
+use Rattle.parameters.proofs.Depths.{depth-steps}
+use Rattle.color_numbers.specs.inner.Sizes.{SmallRatio, SmallSpread, FullSpread}
+use Rattle.color_numbers.proofs.Table.{ratio-small}
+use Rattle.color_numbers.proofs.Spreads.{spread-small}
 use Rattle.color_rows.specs.inner.Rows.{greenRow, floatsOf}
-use Rattle.color_rows.specs.inner.Sizes.{Small, SmallSpread, FullSpread, SmallRatio}
-use Rattle.color_rows.proofs.Sizes.{spread-small, ratio-small, small-row, green-row-fits}
+use Rattle.color_rows.specs.inner.Sizes.{Small}
+use Rattle.color_rows.proofs.Sizes.{small-row, green-row-fits}
 use Rattle.color_rows.proofs.Ranges.{arm-spread, narrow-row, full-row}
 use Rattle.color_rows.proofs.rgb.green_row.Statement.{statement}
 use Rattle.color_rows.proofs.rgb.green_row.Tie as tie

@@ -1,11 +1,12 @@
 -- `color_rows::rgb::rows` meets its contract. Assumes nothing.
 use borrow.Author.Needs.{needs}
 use mathlib.Core.Path.{sym, subst}
-use Rattle.layout.proofs.Depths.{depth-steps}
-use Rattle.layout.specs.Layout.{bitsOf}
+use Rattle.parameters.proofs.Depths.{depth-steps}
+use Rattle.parameters.specs.Parameters.{bitsOf}
+use Rattle.color_numbers.specs.inner.Sizes.{SmallSpread}
+use Rattle.color_numbers.proofs.Spreads.{spread-small}
 use Rattle.color_rows.specs.inner.Rows.{rgbRows}
-use Rattle.color_rows.specs.inner.Sizes.{SmallSpread}
-use Rattle.color_rows.proofs.Sizes.{spread-small, small-row, red-row-fits, blue-row-fits}
+use Rattle.color_rows.proofs.Sizes.{small-row, red-row-fits, blue-row-fits}
 use Rattle.color_rows.proofs.rgb.rows.Statement.{statement}
 use Rattle.color_rows.proofs.rgb.rows.Tie as tie
 

@@ -1,7 +1,7 @@
 -- `descriptor_writer::numbers::depth_of` meets its contract. Assumes nothing.
 use borrow.Author.Needs.{needs}
 use mathlib.Core.Path.{sym, _∙_}
-use Rattle.layout.proofs.Known.{depth-told, depth-unknown, depth-else}
+use Rattle.parameters.proofs.Known.{depth-told, depth-unknown, depth-else}
 use Rattle.descriptor_writer.proofs.numbers.depth_of.Statement.{statement}
 use Rattle.descriptor_writer.proofs.numbers.depth_of.Tie as tie
 

@@ -1,7 +1,7 @@
 -- `descriptor_writer::numbers::range_of` meets its contract. Assumes nothing.
 use borrow.Author.Needs.{needs}
 use mathlib.Core.Path.{sym, _∙_}
-use Rattle.layout.proofs.Known.{range-told, range-unknown, range-else}
+use Rattle.parameters.proofs.Known.{range-told, range-unknown, range-else}
 use Rattle.descriptor_writer.proofs.numbers.range_of.Statement.{statement}
 use Rattle.descriptor_writer.proofs.numbers.range_of.Tie as tie
 

@@ -2,8 +2,8 @@
 use mathlib.Core.Path.{_≡_, ap, _∙_}
 use Prim.Native.Nat.{_-_, _<_}
 use native.Mathlib.Omega.{arith}
-use Rattle.layout.specs.Layout.{rangeOf, bitsOf, kindOf}
-use Rattle.layout.proofs.Depths.{known-bits, known-between}
+use Rattle.parameters.specs.Parameters.{rangeOf, bitsOf, kindOf}
+use Rattle.parameters.proofs.Depths.{known-bits, known-between}
 use Rattle.descriptor_samples.specs.Limits.{limitsOf}
 use Rattle.descriptor_writer.specs.Sample.{sampleBytes, sampleOf}
 use Rattle.descriptor_writer.proofs.Small.{small-sample}

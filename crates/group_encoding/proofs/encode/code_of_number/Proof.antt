@@ -3,8 +3,8 @@ use borrow.Author.Needs.{needs}
 use mathlib.Core.Path.{sym, ap, _∙_, subst}
 use lib.Dec.{T}
 use lib.Ieee.{binary32, fits}
-use Rattle.scales.specs.declared.code.FloatScale.{FloatScale}
-use Rattle.scales.specs.inner.Floats.{codeIn}
+use Rattle.float_scale.specs.declared.FloatScale.{FloatScale}
+use Rattle.float_scale.specs.inner.Floats.{codeIn}
 use Rattle.quantization.specs.declared.code.Coded.the-variants.{Code}
 use Rattle.quantization.proofs.Codes.{float-code}
 use Rattle.group_encoding.proofs.encode.code_of_number.Statement.{statement}

@@ -10,10 +10,10 @@ use Rattle.lists.specs.Lists.{count}
 use Rattle.lists.proofs.Filled.{Filled, filled-from}
 use Rattle.lists.proofs.Lists.{getD-tabulate}
 use Rattle.scales.specs.Channel.{scaleAt}
-use Rattle.scales.specs.inner.Floats.{floatScale}
+use Rattle.float_scale.specs.inner.Floats.{floatScale}
 use Rattle.line.specs.Group.{groupByte}
-use Rattle.packing.proofs.Bytes.{bytes-none, bytes-as}
-use Rattle.packing.proofs.Fills.{counted-fills, one-fills}
+use Rattle.point_packing.proofs.Bytes.{bytes-none, bytes-as}
+use Rattle.point_packing.proofs.Fills.{counted-fills, one-fills}
 use Rattle.line_values.specs.Encode.{quantizedOf}
 use Rattle.line_values.proofs.Encodes.{length-quantized}
 use Rattle.group_encoding.specs.inner.Groups.{groupNumber, countedCut}

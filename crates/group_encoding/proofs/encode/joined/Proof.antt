@@ -6,7 +6,7 @@ use native.Mathlib.Omega.{arith}
 use lib.Dec.{lit<}
 use Rattle.lists.proofs.Counts.{byte-of, one-le}
 use Rattle.scales.specs.Channel.{scaleAt}
-use Rattle.scales.specs.inner.Floats.{Fine}
+use Rattle.float_scale.specs.inner.Floats.{Fine}
 use Rattle.scales.proofs.Scales.{fine-at}
 use Rattle.line_values.specs.Encode.{quantizedOf}
 use Rattle.layout.proofs.Facts.{groups-valid}

@@ -4,7 +4,7 @@ use mathlib.Core.Path.{_≡_, sym, ap, ap₂, _∙_, subst}
 use Prim.Native.Nat.{ℕ, _+_, _*_, _^_, _<_}
 use native.Mathlib.Omega.{arith}
 use lib.ListN.{length}
-use Rattle.layout.specs.Layout.{topOf}
+use Rattle.parameters.specs.Parameters.{topOf}
 use Rattle.ppm_header.specs.Text.{headerText}
 use Rattle.ppm_raster.specs.Raster.{codeBytes}
 use Rattle.ppm_raster.proofs.Parts.{few-code-bytes}

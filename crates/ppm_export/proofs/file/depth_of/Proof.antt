@@ -1,7 +1,7 @@
 -- `ppm_export::file::depth_of` meets its contract. Assumes nothing.
 use borrow.Author.Needs.{needs}
 use mathlib.Core.Path.{sym, _∙_}
-use Rattle.layout.proofs.Known.{depth-told, depth-unknown, depth-else}
+use Rattle.parameters.proofs.Known.{depth-told, depth-unknown, depth-else}
 use Rattle.ppm_export.proofs.file.depth_of.Statement.{statement}
 use Rattle.ppm_export.proofs.file.depth_of.Tie as tie
 

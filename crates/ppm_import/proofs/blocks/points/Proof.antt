@@ -6,11 +6,11 @@ use mathlib.Core.Logic.{inl, inr}
 use native.Mathlib.Omega.{arith}
 use lib.ListN.{length, take}
 use lib.Seq.{length-take-le, length-front}
-use Rattle.layout.specs.Layout.{bitsOf}
+use Rattle.parameters.specs.Parameters.{bitsOf}
 use Rattle.line.specs.Line.{packedOf}
 use Rattle.parts.proofs.Parts.{Made}
-use Rattle.ppm_raster.specs.Raster.{rasterCodes}
 use Rattle.ppm_raster.proofs.Parts.{few-code-bytes}
+use Rattle.ppm_codes.specs.Codes.{rasterCodes}
 use Rattle.ppm_import.proofs.Block.{packed-none, packed-same, packed-all, places, packed-more}
 use Rattle.ppm_import.proofs.blocks.points.Statement.{statement}
 use Rattle.ppm_import.proofs.blocks.points.Tie as tie

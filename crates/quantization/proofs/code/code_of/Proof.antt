@@ -5,8 +5,8 @@ use lib.Dec.{T}
 use lib.Ieee.{binary32, fits}
 use Rattle.quantization.specs.declared.code.Coded.the-variants.{Code}
 use Rattle.quantization.specs.Code.{codeOf}
-use Rattle.scales.specs.declared.code.FloatScale.{FloatScale}
-use Rattle.scales.specs.inner.Floats.{codeIn}
+use Rattle.float_scale.specs.declared.FloatScale.{FloatScale}
+use Rattle.float_scale.specs.inner.Floats.{codeIn}
 use Rattle.quantization.proofs.Floats.{is-nan, no-nan}
 use Rattle.quantization.proofs.Codes.{float-code}
 use Rattle.quantization.proofs.code.code_of.Statement.{statement}

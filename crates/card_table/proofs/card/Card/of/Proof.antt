@@ -9,8 +9,8 @@ use borrow.Author.Needs.{needs}
 use Rattle.card_table.proofs.card.Card.of.Statement.{statement}
 use Rattle.card_table.proofs.card.Card.of.Tie as tie
 
-least-requires : tie.Need-least-requires
-least-requires c κs = search needs
+least-edition-requires : tie.Need-least-edition-requires
+least-edition-requires c κs = search needs
 
 cast-t17 : tie.Need-cast-t17
 cast-t17 c = search needs
@@ -50,13 +50,13 @@ cast-t41 c = search needs
 
 returns : tie.Need-returns
 unfolding cardBytes bytesOf
-returns c = let a = c .before .before .args in ap (λ (least : ℕ). least ∷ drop 1 (cardBytes (a .edition) (a .facts))) (c .least .ensures)
+returns c = let a = c .before .before .args in ap (λ (least : ℕ). least ∷ drop 1 (cardBytes (a .edition) (a .facts))) (c .least-edition .ensures)
 
 pub of-spec : {M : Type 1} → statement M
 of-spec =
     tie.close
     (tie.spec
-    least-requires
+    least-edition-requires
     cast-t17
     cast-t20
     cast-t22

@@ -5,7 +5,7 @@ use native.Mathlib.Omega.{arith}
 use borrow.Author.Needs.{needs}
 use borrow.Author.Tests.{not-true, not-false}
 use Rattle.lists.proofs.Tests.{pass, stop}
-use Rattle.layout.specs.Layout.{primariesKnown}
+use Rattle.parameters.specs.Parameters.{primariesKnown}
 use Rattle.color_equations.proofs.Table.{between}
 use Rattle.color_equations.proofs.weights.Weights.of.Statement.{statement}
 use Rattle.color_equations.proofs.weights.Weights.of.Tie as tie

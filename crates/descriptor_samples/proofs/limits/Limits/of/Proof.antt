@@ -1,6 +1,6 @@
 -- `samples::Limits::of` meets its contract, range by range and kind by kind. Assumes nothing.
 use native.Mathlib.Omega.{arith}
-use Rattle.layout.proofs.Depths.{depth-steps}
+use Rattle.parameters.proofs.Depths.{depth-steps}
 use borrow.Author.Needs.{needs}
 use Rattle.descriptor_samples.proofs.limits.Limits.of.Statement.{statement}
 use Rattle.descriptor_samples.proofs.limits.Limits.of.Tie as tie

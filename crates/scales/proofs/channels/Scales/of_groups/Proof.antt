@@ -4,11 +4,12 @@ use mathlib.Core.Bool.{true, false, true≢false}
 use borrow.Author.Needs.{needs}
 use borrow.Author.Tests.{not-true, not-false}
 use Rattle.lists.proofs.Tests.{pass, stop}
-use Rattle.layout.specs.Layout.{kindOf, validGroups}
-use Rattle.layout.proofs.Known.{range-told, range-unknown}
+use Rattle.parameters.specs.Parameters.{kindOf}
+use Rattle.layout.specs.Layout.{validGroups}
+use Rattle.parameters.proofs.Known.{range-told, range-unknown}
 use Rattle.layout.proofs.Facts.{groups-say}
 use Rattle.scales.specs.declared.channels.LayoutScales.the-variants.{Known}
-use Rattle.scales.specs.Scale.{scaleOf}
+use Rattle.scale.specs.Scale.{scaleOf}
 use Rattle.scales.proofs.channels.Scales.of_groups.Statement.{statement}
 use Rattle.scales.proofs.channels.Scales.of_groups.Tie as tie
 

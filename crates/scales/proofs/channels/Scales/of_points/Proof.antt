@@ -5,7 +5,7 @@ use borrow.Author.Needs.{needs}
 use borrow.Author.Tests.{not-true, not-false}
 use Rattle.lists.proofs.Tests.{pass, stop}
 use Rattle.layout.specs.Layout.{validPoints}
-use Rattle.layout.proofs.Known.{range-told, range-unknown, depth-bits, depth-unknown}
+use Rattle.parameters.proofs.Known.{range-told, range-unknown, depth-bits, depth-unknown}
 use Rattle.layout.proofs.Facts.{points-say}
 use Rattle.scales.proofs.Scales.{scales-are}
 use Rattle.scales.proofs.channels.Scales.of_points.Statement.{statement}

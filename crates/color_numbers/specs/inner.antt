@@ -1,0 +1,4 @@
+pub mod Green
+pub mod Spread
+pub mod Numbers
+pub mod Sizes
