@@ -1,4 +1,6 @@
 // The C interface of cards and stacks: include/imurraqi.h declares the same functions.
+#![tactic(auto)]
+
 ghost use Rattle.std.specs.Prelude.{◌≡◌, length};
 ghost use Rattle.card_reader.specs.Reading.{read_card};
 ghost use Rattle.card_writer.specs.Writing.{write_answer, write_output};

@@ -1,4 +1,6 @@
 // The C interface of colors: include/imurraqi.h declares the same functions.
+#![tactic(auto)]
+
 ghost use Rattle.std.specs.Prelude.{◌≡◌, length};
 ghost use Rattle.color_equations.specs.Line.{to_ycbcr_answer, to_ycbcr_output, to_rgb_answer, to_rgb_output};
 ghost use Rattle.c_types.specs.Numbers.{clamped_number, cuts_after};

@@ -1,4 +1,6 @@
 // The C interface of descriptors: include/imurraqi.h declares the same functions.
+#![tactic(auto)]
+
 ghost use Rattle.std.specs.Prelude.{◌≡◌, length};
 ghost use Rattle.descriptor_reader.specs.Reading.{read_descriptor};
 ghost use Rattle.descriptor_writer.specs.Writing.{write_answer, write_output};

@@ -1,4 +1,6 @@
 // The C interface of fields: include/imurraqi.h declares the same functions.
+#![tactic(auto)]
+
 ghost use Rattle.std.specs.Prelude.{◌≡◌};
 ghost use Rattle.field.specs.Answer.{code_answer, bytes_answer};
 ghost use Rattle.c_types.specs.Layouts.{layout_of};

@@ -1,4 +1,6 @@
 // The C interface of the history of one card: include/imurraqi.h declares the same function.
+#![tactic(auto)]
+
 ghost use Rattle.std.specs.Prelude.{◌≡◌};
 ghost use Rattle.custody.specs.Replay.{Given, replay_answer, replay_card, replay_outputs, replay_answers, replay_values};
 ghost use Rattle.c_types.specs.Layouts.{facts_of};

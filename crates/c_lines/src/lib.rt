@@ -1,4 +1,6 @@
 // The C interface of lines and points: include/imurraqi.h declares the same functions.
+#![tactic(auto)]
+
 ghost use Rattle.std.specs.Prelude.{◌≡◌, length};
 ghost use Rattle.line.specs.Answer.{unpack_answer, unpack_output, pack_answer, pack_output};
 ghost use Rattle.line_values.specs.Encode.{encode_answer, encode_output, encode_point_answer, encode_point_output};

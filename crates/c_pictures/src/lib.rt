@@ -1,4 +1,6 @@
 // The C interface of picture files: include/imurraqi.h declares the same functions.
+#![tactic(auto)]
+
 ghost use Rattle.std.specs.Prelude.{◌≡◌, length};
 ghost use Rattle.ppm_export.specs.Export.{export_answer, export_output, export_length};
 ghost use Rattle.ppm_card.specs.Card.{import_length};

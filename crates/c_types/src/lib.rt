@@ -1,5 +1,7 @@
 // What the functions of the C interface share: how C hands over a layout and the facts of a card, and how it gets a refusal or
 // a line's answer as a number (include/imurraqi.h).
+#![tactic(auto)]
+
 ghost use Rattle.std.specs.Prelude.{◌≡◌, cond, pos, neg_ℤ};
 ghost use Rattle.c_types.specs.Layouts.{layout_of, layout_bytes, facts_of};
 ghost use Rattle.c_types.specs.Numbers.{line_number, without_cuts, clamped_number, cuts_after, counted};

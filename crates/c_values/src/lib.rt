@@ -1,4 +1,6 @@
 // The C interface of one value: include/imurraqi.h declares the same functions.
+#![tactic(auto)]
+
 ghost use Rattle.std.specs.Prelude.{◌≡◌};
 ghost use Rattle.quantization.specs.Answer.{dequantized, quantized};
 ghost use Rattle.c_values.specs.Numbers.{dequantized_number, dequantized_value, quantized_number, quantized_cuts};

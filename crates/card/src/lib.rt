@@ -1,4 +1,6 @@
 // The card: 32 bytes that hold the facts of an item, read and written at an edition, and found in a stack (document 01, "Card").
+#![tactic(auto)]
+
 ghost use Rattle.std.specs.Prelude.{◌≡◌, length};
 ghost use Rattle.card.specs.Rewriting.{rewrite_answer, rewrite_output};
 

@@ -1,4 +1,6 @@
 // An item's card in a stack, beside the number of the refusal where there is none (document 01, "Numbers on the refusal slip").
+#![tactic(auto)]
+
 ghost use Rattle.std.specs.Prelude.{◌≡◌, length};
 ghost use Rattle.stack.specs.Finding.{located, part, placed};
 ghost use Rattle.card_finder.specs.Number.{refusal_of};
@@ -9,7 +11,7 @@ use card_table::Card;
 use stack::{find, whole};
 
 // A card that was found, and 0; or the empty part, and the refusal's number.
-#[derive(Drop)]
+#[derive(Clone, Copy)]
 pub struct FoundCard<'a> {
     pub card: &'a [u8],
     pub number: u8,

@@ -1,4 +1,6 @@
 // A card read: 32 bytes that hold the facts of an item (document 01, "Card").
+#![tactic(auto)]
+
 ghost use Rattle.std.specs.Prelude.{◌≡◌};
 ghost use Rattle.card_reader.specs.Reading.{read_card, shows_item};
 
@@ -10,7 +12,7 @@ mod front;
 mod number;
 
 // The facts that a card shows, or the refusal's number.
-#[derive(Drop)]
+#[derive(Clone, Copy)]
 pub enum CardReading {
     Shown(Facts),
     Refused(u8),

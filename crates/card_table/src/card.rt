@@ -5,7 +5,7 @@ ghost use Rattle.card_table.specs.Table.{card_bytes};
 use crate::facts::Facts;
 
 // A card as it is written.
-#[derive(Drop)]
+#[derive(Clone, Copy)]
 pub struct Card {
     pub bytes: [u8; Card::SIZE],
 }

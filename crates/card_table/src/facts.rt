@@ -7,7 +7,7 @@ use card_edition::access;
 use layout::Layout;
 
 // Any numbers make facts; `valid` says whether all are the paper's.
-#[derive(Drop)]
+#[derive(Clone, Copy)]
 pub struct Facts {
     pub layout: Layout,
     pub width: u16,

@@ -1,4 +1,6 @@
 // A card written: the 32 bytes of an item's facts (document 01, "Card").
+#![tactic(auto)]
+
 ghost use Rattle.std.specs.Prelude.{◌≡◌, length};
 ghost use Rattle.card_writer.specs.Writing.{unwritable, write_answer, write_output};
 
@@ -41,6 +43,6 @@ pub fn write(edition: u8, facts: Facts, out: &mut [u8]) -> Written
     }
     let card = Card::of(edition, facts);
     let written = card.bytes;
-    bytes::copy(&written, out);
+    out.copy_from_slice(&written);
     Written::Done
 }

@@ -3,14 +3,14 @@ ghost use Rattle.std.specs.Prelude.{◌≡◌};
 ghost use Rattle.color_equations.specs.inner.Known.{known_weights};
 
 // KR and KB in ten-thousandths.
-#[derive(Drop)]
+#[derive(Clone, Copy)]
 pub struct Weights {
     pub red: u16,
     pub blue: u16,
 }
 
 // The weights of primaries, or that the paper has none.
-#[derive(Drop)]
+#[derive(Clone, Copy)]
 pub enum KnownWeights {
     Known(Weights),
     Unknown,

@@ -1,4 +1,6 @@
 // Lines of points converted by rows of floats: each code that comes out is the whole part of one quotient.
+#![tactic(auto)]
+
 ghost use Rattle.std.specs.Prelude.{◌≡◌, length};
 ghost use Rattle.color_line.specs.inner.Rows.{converted_by, cuts_by};
 

@@ -8,7 +8,7 @@ use crate::row::{FloatRows, Triple, point};
 use crate::store::{store_eight, store3};
 
 // The numbers of eight points, and how many of their codes were cut.
-#[derive(Drop)]
+#[derive(Clone, Copy)]
 pub struct Eight {
     pub numbers: [u64; 8],
     pub cuts: u64,

@@ -7,7 +7,7 @@ use fractions::Clamped;
 
 // The code is the whole part of (first x + second y + third z + more) / over - 4096, within the ends, and is cut where that lies
 // outside them. The fraction is kept 4096 above the code's, where all codes have one exponent.
-#[derive(Drop)]
+#[derive(Clone, Copy)]
 pub struct FloatRow {
     pub first: f64,
     pub second: f64,
@@ -18,7 +18,7 @@ pub struct FloatRow {
 }
 
 // One for each channel of the point that comes out.
-#[derive(Drop)]
+#[derive(Clone, Copy)]
 pub struct FloatRows {
     pub first: FloatRow,
     pub second: FloatRow,
@@ -26,7 +26,7 @@ pub struct FloatRows {
 }
 
 // The three codes of a point in one number, 16 bits each, and how many of them were cut.
-#[derive(Drop)]
+#[derive(Clone, Copy)]
 pub struct Triple {
     pub number: u64,
     pub cuts: u64,

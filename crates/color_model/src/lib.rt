@@ -1,4 +1,6 @@
 // Lines of codes between R'G'B' and Y'CbCr, exact, with one rounding (document 01, "Between R'G'B' and Y'CbCr").
+#![tactic(auto)]
+
 ghost use Rattle.std.specs.Prelude.{◌≡◌, length};
 ghost use Rattle.lists.specs.Lists.{new_or_kept};
 ghost use Rattle.line.specs.Answer.{clamped_accepted};

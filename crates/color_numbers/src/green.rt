@@ -8,7 +8,7 @@ use parameters::{Depth, Range};
 
 // G' = (luma (y - black) - red (cr - neutral) - blue (cb - neutral)) / (2 half * 21 s), in lowest terms. By the weights,
 // luma : red : blue : 2 half * 21 are 224 KG : 2 * 219 KR (1 - KR) : 2 * 219 KB (1 - KB) : 224 * 219 KG.
-#[derive(Drop)]
+#[derive(Clone, Copy)]
 pub struct GreenTerms {
     pub luma: u64,
     pub red: u64,
@@ -54,7 +54,7 @@ pub(crate) fn green_terms(primaries: u8) -> GreenTerms
 }
 
 // The span of the codes that come out, over 21 s, in lowest terms: span / whole.
-#[derive(Drop)]
+#[derive(Clone, Copy)]
 pub struct Ratio {
     pub span: u64,
     pub whole: u64,

@@ -1,5 +1,7 @@
 // What a conversion between R'G'B' and Y'CbCr is given: the paper's numbers, looked up, the scales of Y'CbCr codes, and the
 // tables of G' out of narrow range.
+#![tactic(auto)]
+
 ghost use Rattle.std.specs.Prelude.{◌≡◌};
 ghost use Rattle.color_numbers.specs.inner.Numbers.{known_numbers};
 
@@ -14,7 +16,7 @@ pub use green::{GreenTerms, Ratio, ratio_of};
 pub use spread::{Spread, spread_of};
 
 // `from` is the range of the codes that go in, and `to` that of those that come out.
-#[derive(Drop)]
+#[derive(Clone, Copy)]
 pub struct Numbers {
     pub weights: Weights,
     pub green: GreenTerms,
@@ -24,7 +26,7 @@ pub struct Numbers {
 }
 
 // What numbers stand for, or that the paper has no such conversion.
-#[derive(Drop)]
+#[derive(Clone, Copy)]
 pub enum KnownNumbers {
     Known(Numbers),
     Unknown,

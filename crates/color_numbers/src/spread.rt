@@ -6,7 +6,7 @@ ghost use Rattle.color_numbers.specs.inner.Spread.{full_spread, spread_of};
 use parameters::{Depth, Range};
 
 // The scales of Y' and of Cb and Cr over one divisor: Y' is luma (y - black) / whole, and Cb is chroma (cb - neutral) / whole.
-#[derive(Drop)]
+#[derive(Clone, Copy)]
 pub struct Spread {
     pub luma: u64,
     pub chroma: u64,

@@ -1,4 +1,6 @@
 // The rows of a conversion between R'G'B' and Y'CbCr, worked out once for a line.
+#![tactic(auto)]
+
 ghost use Rattle.std.specs.Prelude.{◌≡◌};
 ghost use Rattle.color_rows.specs.inner.Known.{known_to_ycbcr, known_to_rgb};
 
@@ -11,14 +13,14 @@ mod rgb;
 mod ycbcr;
 
 // A conversion: a row for each channel, and the highest code that a line may have.
-#[derive(Drop)]
+#[derive(Clone, Copy)]
 pub struct Conversion {
     pub rows: FloatRows,
     pub top: u16,
 }
 
 // The conversion of the paper's numbers, or that the paper has none.
-#[derive(Drop)]
+#[derive(Clone, Copy)]
 pub enum KnownConversion {
     Known(Conversion),
     Unknown,

@@ -8,7 +8,7 @@ use floats::Ends;
 use scale::Scale;
 
 // plus0 x + plus1 y + plus2 z + plus - (minus0 x + minus1 y + minus2 z + minus).
-#[derive(Drop)]
+#[derive(Clone, Copy)]
 pub struct Linear {
     pub plus0: u64,
     pub plus1: u64,
@@ -21,14 +21,14 @@ pub struct Linear {
 }
 
 // sum / (2 half). Every divisor of the equations is even.
-#[derive(Drop)]
+#[derive(Clone, Copy)]
 pub struct Value {
     pub sum: Linear,
     pub half: u64,
 }
 
 // The code is the whole part of sum / over, within the ends, and is cut where that lies outside them.
-#[derive(Drop)]
+#[derive(Clone, Copy)]
 pub struct Row {
     pub sum: Linear,
     pub over: u64,

@@ -1,5 +1,7 @@
 // The history of one card, run: the first writing, every rewrite, the last reading and the decoding by it (document 01, "The
 // book of one card").
+#![tactic(auto)]
+
 ghost use Rattle.std.specs.Prelude.{◌≡◌, length};
 ghost use Rattle.card_reader.specs.Reading.{read_card};
 ghost use Rattle.custody_book.specs.Calls.{then_decode, then_values};
@@ -11,7 +13,7 @@ use line::LineAnswer;
 use refusal::Written;
 
 // What a replay answers.
-#[derive(Drop)]
+#[derive(Clone, Copy)]
 pub enum Replayed {
     // The last reading, and what decoding by its layout answered: the reading's own number where that was refused.
     Ended {

@@ -1,4 +1,6 @@
 // The rewrites of one card, run one after the other (document 01, "The book of one card").
+#![tactic(auto)]
+
 ghost use Rattle.std.specs.Prelude.{◌≡◌, length};
 ghost use Rattle.lists.specs.Lists.{new_or_kept};
 ghost use Rattle.custody_rewrites.specs.Lists.{fitting, rewrites_of};
@@ -30,7 +32,7 @@ pub fn rewrite_all(
     if !fits::fits(card.len(), editions, lengths, outputs.len(), answers.len()) {
         return false;
     }
-    bytes::copy(first, card);
+    card.copy_from_slice(first);
     rewrites::rewrite_each(card, editions, lengths, outputs, answers);
     true
 }

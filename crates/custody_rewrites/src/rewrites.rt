@@ -20,7 +20,7 @@ fn rewrite(card: &mut [u8], edition: u8, out: &mut [u8]) -> u8
     match answer {
         Written::Refused(number) => number,
         Written::Done => {
-            bytes::copy(out, card);
+            card.copy_from_slice(out);
             0
         }
     }

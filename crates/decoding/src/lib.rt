@@ -1,5 +1,7 @@
 // A packed line of points or groups decoded to floats, three a point in channel order, and one point (document 01, "Codes and
 // floats").
+#![tactic(auto)]
+
 ghost use Rattle.std.specs.Prelude.{◌≡◌, length};
 ghost use Rattle.line_values.specs.Decode.{decode_answer, decode_output};
 ghost use Rattle.decoding.specs.Point.{decode_point};
@@ -8,7 +10,7 @@ use layout::Layout;
 use line::{LineAnswer, Point};
 
 // A point's values, or the refusal's number.
-#[derive(Drop)]
+#[derive(Clone, Copy)]
 pub enum DecodedPoint {
     Decoded(Point),
     Refused(u8),

@@ -1,4 +1,6 @@
 // The layout that a descriptor's samples tell (document 01, "Descriptor").
+#![tactic(auto)]
+
 ghost use Rattle.std.specs.Prelude.{◌≡◌, true, cond};
 ghost use Rattle.layout.specs.Layout.{bytes_known};
 ghost use Rattle.refusal.specs.Refusal.{wrong_planes};
@@ -11,7 +13,7 @@ use layout::Layout;
 use parameters::{Depth, KnownDepth};
 
 // The layout that a descriptor tells, or the refusal's number.
-#[derive(Drop)]
+#[derive(Clone, Copy)]
 pub enum DescriptorReading {
     Accepted(Layout),
     Refused(u8),

@@ -1,4 +1,6 @@
 // A descriptor read: 76 bytes that tell a layout (document 01, "Descriptor").
+#![tactic(auto)]
+
 ghost use Rattle.std.specs.Prelude.{◌≡◌};
 ghost use Rattle.descriptor_reader.specs.Reading.{read_descriptor};
 

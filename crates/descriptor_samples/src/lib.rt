@@ -1,4 +1,6 @@
 // The three samples of a descriptor by their numbers: what a range states, and which samples are right (document 01, "Descriptor").
+#![tactic(auto)]
+
 mod limits;
 mod sample;
 mod samples;

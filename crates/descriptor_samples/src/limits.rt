@@ -5,7 +5,7 @@ ghost use Rattle.descriptor_samples.specs.Limits.{limits_of};
 
 use parameters::{Depth, Kind, Range};
 
-#[derive(Drop)]
+#[derive(Clone, Copy)]
 pub struct Limits {
     pub lower: u16,
     pub upper: u16,

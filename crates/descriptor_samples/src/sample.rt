@@ -7,7 +7,7 @@ use crate::limits::Limits;
 use parameters::{Depth, Kind, Range};
 
 // A sample by its numbers. `length` is n - 1.
-#[derive(Drop)]
+#[derive(Clone, Copy)]
 pub struct Sample {
     pub offset: u16,
     pub length: u8,

@@ -7,7 +7,7 @@ use crate::sample::Sample;
 use parameters::{Depth, Range};
 
 // In the order in which they stand.
-#[derive(Drop)]
+#[derive(Clone, Copy)]
 pub struct Samples {
     pub first: Sample,
     pub second: Sample,

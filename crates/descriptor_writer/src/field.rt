@@ -5,14 +5,14 @@ ghost use Rattle.descriptor_writer.specs.Field.{fields_of};
 use layout::Layout;
 
 // A channel and the bit offset of its field.
-#[derive(Drop)]
+#[derive(Clone, Copy)]
 pub struct Field {
     pub channel: u8,
     pub offset: u8,
 }
 
 // All three, in rising bit offset.
-#[derive(Drop)]
+#[derive(Clone, Copy)]
 pub struct Fields {
     pub first: Field,
     pub second: Field,

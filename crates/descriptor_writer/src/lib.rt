@@ -1,4 +1,6 @@
 // A descriptor written: the 76 bytes that tell a layout (document 01, "Descriptor").
+#![tactic(auto)]
+
 ghost use Rattle.std.specs.Prelude.{◌≡◌, length};
 ghost use Rattle.descriptor_writer.specs.Writing.{write_answer, write_output};
 

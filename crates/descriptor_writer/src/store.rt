@@ -16,7 +16,7 @@ pub(crate) fn put(part: &[u8], at: usize, out: &mut [u8])
     ensures { out.new ≡ sets out.old at part.now }
 {
     let end = at + part.len();
-    bytes::copy(part, &mut out[at..end]);
+    out[at..end].copy_from_slice(part);
 }
 
 // Stores a field's sample.

@@ -1,5 +1,7 @@
 // Lines of floats, three a point in channel order, encoded to points or groups, and one point (document 01, "Codes and
 // floats").
+#![tactic(auto)]
+
 ghost use Rattle.std.specs.Prelude.{◌≡◌, length};
 ghost use Rattle.line_values.specs.Encode.{encode_answer, encode_output, encode_point_answer, encode_point_output};
 

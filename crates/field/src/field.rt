@@ -9,7 +9,7 @@ use layout::Layout;
 
 // `first` is the first byte of a point that holds the field, `count` how many do, `from` the bit of the first at which the field
 // begins, and `bits` how many it has.
-#[derive(Drop)]
+#[derive(Clone, Copy)]
 pub struct Field {
     pub first: usize,
     pub count: usize,

@@ -1,4 +1,6 @@
 // A channel's field: which bytes of a point hold its code, and the code in just these bytes (request A3).
+#![tactic(auto)]
+
 ghost use Rattle.std.specs.Prelude.{◌≡◌};
 ghost use Rattle.field.specs.Answer.{field_known, code_answer, bytes_answer};
 ghost use Rattle.field.specs.inner.Read.{one_count};
@@ -10,14 +12,14 @@ mod field;
 pub use field::Field;
 
 // A code, or the refusal's number.
-#[derive(Drop)]
+#[derive(Clone, Copy)]
 pub enum FieldCode {
     Code(u16),
     Refused(u8),
 }
 
 // Which bytes of a point hold a field, or the refusal's number.
-#[derive(Drop)]
+#[derive(Clone, Copy)]
 pub enum FieldBytes {
     Held(Field),
     Refused(u8),

@@ -1,4 +1,6 @@
 // A scale in f64, and the code of a number by one product and one sum.
+#![tactic(auto)]
+
 ghost use Rattle.std.specs.Prelude.{◌≡◌};
 ghost use Rattle.float_scale.specs.inner.Floats.{ends_of, float_scale, code_in};
 
@@ -7,7 +9,7 @@ use fractions::Clamped;
 use scale::{Rounding, Scale};
 
 // A scale in f64, worked out once for a line of values.
-#[derive(Drop)]
+#[derive(Clone, Copy)]
 pub struct FloatScale {
     pub span: f64,
     pub middle: f64,

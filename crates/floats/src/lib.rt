@@ -1,5 +1,7 @@
 // The whole part of an f64 without a cast: from its bit pattern, once it is brought to 4096 and more, below 8192; and whether
 // it had to be brought there.
+#![tactic(auto)]
+
 ghost use Rattle.std.specs.Prelude.{◌≡◌, not, cond, ◌^◌, ◌<◌, T};
 ghost use Rattle.std.specs.Float.Ieee.{is_nan, lt};
 ghost use Rattle.floats.specs.inner.Floor.{in_units, in_floats, brought, whole_of, clamped_by};
@@ -8,7 +10,7 @@ use fractions::Clamped;
 
 // The ends of a clamp. A number, to which the half of its rounding has been added, is cut if its whole part is below `low` or above
 // `high`; where `strict` says so, also if it is `low` itself, with nothing behind its point.
-#[derive(Drop)]
+#[derive(Clone, Copy)]
 pub struct Ends {
     pub low: u16,
     pub high: u16,
@@ -16,7 +18,7 @@ pub struct Ends {
 }
 
 // The ends in f64, worked out once for a line: the first number that is not cut, with 4096 more, and the highest code.
-#[derive(Drop)]
+#[derive(Clone, Copy)]
 pub struct FloatEnds {
     pub first: f64,
     pub high: u16,
@@ -53,6 +55,7 @@ fn at_most(t: f64, high: f64) -> f64
 
 // The whole part, less 4096, of a number from 4096 to below 8192: all of these have one exponent, so that it stands in bits
 // 40 to 51.
+#[tactic(auto, unfolding(crate::specs::inner::Floor::whole_of))]
 fn whole(t: f64) -> u16
     requires { T (not (is_nan t)) }
     ensures { result ≡ whole_of t }

@@ -1,4 +1,6 @@
 // Codes of any layout as full-range R'G'B' of its depth (request A7).
+#![tactic(auto)]
+
 ghost use Rattle.std.specs.Prelude.{◌≡◌};
 ghost use Rattle.full_rgb.specs.inner.Way.{rgb_way, ycbcr_way, way_of, full_by};
 
@@ -20,7 +22,7 @@ const FULL: u8 = 2;
 
 // How the points of a picture become full-range R'G'B', worked out once: those of R'G'B' code by code, those of Y'CbCr by the
 // rows of their conversion.
-#[derive(Drop)]
+#[derive(Clone, Copy)]
 pub enum Way {
     Each(Stretch),
     Rows(FloatRows),

@@ -6,7 +6,7 @@ use parameters::Depth;
 
 // A code c becomes c + (times c + plus) / 1168 - less, from 0 to the top. m / (219 s) is 85/73, 341/292 or 1365/1168, so over 1168
 // at every depth: the divisor is a constant, and the compiler multiplies where it would divide.
-#[derive(Drop)]
+#[derive(Clone, Copy)]
 pub struct Stretch {
     pub times: u16,
     pub plus: u16,

@@ -1,5 +1,7 @@
 // A packed line of groups, four bytes Cb, Y', Cr, Y' for two points that share their colour, decoded to floats, three a point in
 // channel order (request A6).
+#![tactic(auto)]
+
 ghost use Rattle.std.specs.Prelude.{◌≡◌, length};
 ghost use Rattle.line.specs.declared.LineAnswer.TheVariants.{Refused};
 ghost use Rattle.line.specs.Answer.{of_groups};

@@ -29,7 +29,7 @@ fn code_of_number(scale: FloatScale, value: f32) -> Clamped
 }
 
 // A group's number, and how many of its values were cut.
-#[derive(Drop)]
+#[derive(Clone, Copy)]
 pub struct GroupCodes {
     pub number: u64,
     pub cuts: u64,
@@ -63,7 +63,7 @@ fn joined(
 }
 
 // The numbers of eight groups, and how many of their values were cut.
-#[derive(Drop)]
+#[derive(Clone, Copy)]
 pub struct EightCodes {
     pub numbers: [u64; 8],
     pub cuts: u64,

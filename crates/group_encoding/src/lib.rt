@@ -1,5 +1,7 @@
 // A line of floats, three a point in channel order, encoded to groups, four bytes Cb, Y', Cr, Y' for two points that share their
 // colour (request A6).
+#![tactic(auto)]
+
 ghost use Rattle.std.specs.Prelude.{◌≡◌, length};
 ghost use Rattle.line.specs.declared.ClampedAnswer.TheVariants.{Refused};
 ghost use Rattle.line.specs.Answer.{of_groups};

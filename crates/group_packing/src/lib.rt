@@ -1,5 +1,7 @@
 // A line of codes, three a point, packed to groups, four bytes Cb, Y', Cr, Y' for two points that share their colour (request
 // A6). A layout that is not of groups is refused: the crate `point_packing` has the points' own way.
+#![tactic(auto)]
+
 ghost use Rattle.std.specs.Prelude.{◌≡◌, true, ◌+◌, ◌*◌, ◌≤◌, length, get_or, set};
 ghost use Rattle.lists.specs.inner.Stores.{written};
 ghost use Rattle.refusal.specs.Refusal.{outside};

@@ -1,5 +1,7 @@
 // A line of groups, four bytes Cb, Y', Cr, Y' for two points that share their colour, unpacked to codes, three a point (request
 // A6). A layout that is not of groups is refused: the crate `point_unpacking` has the points' own way.
+#![tactic(auto)]
+
 ghost use Rattle.std.specs.Prelude.{◌≡◌, ◌+◌, ◌*◌, ◌≤◌, length, get_or, set};
 ghost use Rattle.lists.specs.inner.Stores.{written};
 ghost use Rattle.refusal.specs.Refusal.{outside};

@@ -1,4 +1,6 @@
 // The list of a stack, as text (document 01, "The stack list").
+#![tactic(auto)]
+
 ghost use Rattle.std.specs.Prelude.{◌≡◌, length, ◌≤◌};
 ghost use Rattle.stack.specs.Stack.{cards_in};
 ghost use Rattle.listing.specs.List.{card_lines, list_text};
@@ -12,7 +14,7 @@ mod field;
 mod line;
 
 // How many bytes of text were written, or the refusal's number.
-#[derive(Drop)]
+#[derive(Clone, Copy)]
 pub enum Text {
     Written(usize),
     Refused(u8),

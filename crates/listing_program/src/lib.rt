@@ -1,4 +1,6 @@
 // What the programs that list a stack share: from an open file to standard output (document 01, "The stack list").
+#![tactic(auto)]
+
 ghost use Rattle.std.specs.Prelude.{◌≡◌, length, ◌≤◌};
 ghost use Rattle.listing.specs.List.{list_text};
 ghost use Rattle.listing.specs.Text.{longest_list};
@@ -10,7 +12,7 @@ use libc::{STDERR_FILENO, STDOUT_FILENO};
 use listing::Text;
 
 // What the program did.
-#[derive(Drop)]
+#[derive(Clone, Copy)]
 pub enum Ran {
     // So many bytes were read, and the list of them, of so many bytes, is at the front of the text.
     Listed(usize, usize),
@@ -21,7 +23,7 @@ pub enum Ran {
 }
 
 // How many bytes were read, or that a read failed.
-#[derive(Drop)]
+#[derive(Clone, Copy)]
 enum Input {
     Bytes(usize),
     Failed,

@@ -2,7 +2,7 @@
 ghost use Rattle.std.specs.Prelude.{◌≡◌};
 ghost use Rattle.parameters.specs.Parameters.{depth_known, known_depth, bits_of, step_of, top_of};
 
-#[derive(Drop)]
+#[derive(Clone, Copy)]
 pub enum Depth {
     Eight,
     Ten,
@@ -10,7 +10,7 @@ pub enum Depth {
 }
 
 // The depth of a number, or that it has none.
-#[derive(Drop)]
+#[derive(Clone, Copy)]
 pub enum KnownDepth {
     Known(Depth),
     Unknown,

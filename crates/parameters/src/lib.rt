@@ -1,4 +1,6 @@
 // The parameters of a picture by the paper's numbers: models, primaries, channels, ranges and depths (document 01, "Layout").
+#![tactic(auto)]
+
 ghost use Rattle.std.specs.Prelude.{◌≡◌};
 ghost use Rattle.parameters.specs.Parameters.{model_known, primaries_known, channel_known};
 

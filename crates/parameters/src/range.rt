@@ -3,7 +3,7 @@ ghost use Rattle.std.specs.Prelude.{◌≡◌};
 ghost use Rattle.parameters.specs.Parameters.{range_known, known_range};
 
 // `LegacyFull` is the full range of BT.2100-0 and JFIF: 2^n codes a unit, where `Full` has 2^n - 1.
-#[derive(Drop)]
+#[derive(Clone, Copy)]
 pub enum Range {
     Narrow,
     Full,
@@ -11,7 +11,7 @@ pub enum Range {
 }
 
 // The range of a number, or that it has none.
-#[derive(Drop)]
+#[derive(Clone, Copy)]
 pub enum KnownRange {
     Known(Range),
     Unknown,

@@ -1,4 +1,6 @@
 // A packed line of points of their own decoded to floats, three a point in channel order (document 01, "Codes and floats").
+#![tactic(auto)]
+
 ghost use Rattle.std.specs.Prelude.{◌≡◌, length};
 ghost use Rattle.refusal.specs.Refusal.{outside};
 ghost use Rattle.line.specs.declared.LineAnswer.TheVariants.{Refused};

@@ -33,7 +33,7 @@ pub(crate) fn all_numbers(values: &[f32]) -> bool
 }
 
 // The scales of the three channels in f64, worked out once for a line.
-#[derive(Drop)]
+#[derive(Clone, Copy)]
 pub struct FloatScales {
     pub channel0: FloatScale,
     pub channel1: FloatScale,
@@ -62,7 +62,7 @@ fn code_of_number(scale: FloatScale, value: f32) -> Clamped
 }
 
 // A point's number, and how many of its values were cut.
-#[derive(Drop)]
+#[derive(Clone, Copy)]
 pub struct PointCodes {
     pub number: u64,
     pub cuts: u64,
@@ -84,7 +84,7 @@ fn joined(layout: Layout, scales: FloatScales, values: &[f32], i: usize) -> Poin
 }
 
 // The numbers of eight points, and how many of their values were cut.
-#[derive(Drop)]
+#[derive(Clone, Copy)]
 pub struct EightCodes {
     pub numbers: [u64; 8],
     pub cuts: u64,

@@ -1,4 +1,6 @@
 // A line of floats, three a point in channel order, encoded to points of their own (document 01, "Codes and floats").
+#![tactic(auto)]
+
 ghost use Rattle.std.specs.Prelude.{◌≡◌, length};
 ghost use Rattle.line.specs.declared.ClampedAnswer.TheVariants.{Refused};
 ghost use Rattle.line.specs.Answer.{of_points};

@@ -1,4 +1,6 @@
 // Three codes in their places in a point.
+#![tactic(auto)]
+
 ghost use Rattle.std.specs.Prelude.{◌≡◌};
 ghost use Rattle.point_joining.specs.inner.Places.{joined_bits};
 

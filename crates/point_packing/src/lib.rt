@@ -1,4 +1,6 @@
 // A line of codes, three a point in channel order, packed to points of their own (document 01, "Layout").
+#![tactic(auto)]
+
 ghost use Rattle.std.specs.Prelude.{◌≡◌, length};
 ghost use Rattle.refusal.specs.Refusal.{outside};
 ghost use Rattle.line.specs.declared.LineAnswer.TheVariants.{Refused};

@@ -1,5 +1,7 @@
 // A packed line of points of their own unpacked to codes, three a point in channel order (document 01, "Layout" and "Codes and
 // floats").
+#![tactic(auto)]
+
 ghost use Rattle.std.specs.Prelude.{◌≡◌, length};
 ghost use Rattle.refusal.specs.Refusal.{outside};
 ghost use Rattle.line.specs.declared.LineAnswer.TheVariants.{Refused};

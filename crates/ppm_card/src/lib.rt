@@ -1,5 +1,7 @@
 // What is made of a picture file's header, binary PPM (request A7), before any byte is stored: the layout of the points, the
 // facts of the card, and how long the file and both outputs must be.
+#![tactic(auto)]
+
 ghost use Rattle.std.specs.Prelude.{◌≡◌};
 ghost use Rattle.parameters.specs.Parameters.{bits_of, top_of};
 ghost use Rattle.ppm_card.specs.Card.{given_known, import_fits, import_length};

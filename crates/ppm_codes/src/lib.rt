@@ -1,4 +1,6 @@
 // The codes of a picture file's raster, binary PPM (request A7): taken from its bytes, and looked at.
+#![tactic(auto)]
+
 ghost use Rattle.std.specs.Prelude.{◌≡◌};
 ghost use Rattle.parameters.specs.Parameters.{bits_of};
 ghost use Rattle.line.specs.Line.{codes_within};

@@ -1,4 +1,6 @@
 // A picture file, binary PPM, from a card and its packed lines (request A7).
+#![tactic(auto)]
+
 ghost use Rattle.std.specs.Prelude.{◌≡◌, length};
 ghost use Rattle.ppm_export.specs.Export.{read_for_export, export_answer, export_output, export_length};
 

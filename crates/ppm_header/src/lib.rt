@@ -1,4 +1,6 @@
 // The header of a picture file, binary PPM (request A7): stored, and read.
+#![tactic(auto)]
+
 ghost use Rattle.std.specs.Prelude.{◌≡◌, length, ◌≤◌};
 ghost use Rattle.text_writer.specs.Decimal.{decimal};
 ghost use Rattle.text_writer.specs.Put.{Put};
@@ -10,7 +12,7 @@ use text_writer::{put_byte, put_number};
 mod scan;
 
 // What a header says, with how many bytes it has, or the refusal's number.
-#[derive(Drop)]
+#[derive(Clone, Copy)]
 pub enum Header {
     Of {
         width: u16,

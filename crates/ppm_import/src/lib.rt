@@ -1,4 +1,6 @@
 // A closed card and packed points from a picture file, binary PPM (request A7).
+#![tactic(auto)]
+
 ghost use Rattle.std.specs.Prelude.{◌≡◌, length};
 ghost use Rattle.lists.specs.Lists.{new_or_kept};
 ghost use Rattle.parameters.specs.Parameters.{bits_of, top_of};

@@ -1,5 +1,7 @@
 // Packed points as the bytes of a picture file, binary PPM (request A7), a block at a time: there is no heap, and the stack is
 // small.
+#![tactic(auto)]
+
 ghost use Rattle.std.specs.Prelude.{◌≡◌, true, ◌*◌, ◌≤◌, length};
 ghost use Rattle.parameters.specs.Parameters.{depth_of};
 ghost use Rattle.layout.specs.Layout.{valid_layout};

@@ -1,4 +1,6 @@
 // The raster of a picture file, binary PPM (request A7): codes as bytes, big-endian, one byte each at 8 bits, else two.
+#![tactic(auto)]
+
 ghost use Rattle.std.specs.Prelude.{◌≡◌};
 ghost use Rattle.parameters.specs.Parameters.{bits_of};
 ghost use Rattle.ppm_raster.specs.Raster.{code_bytes, raster_output};

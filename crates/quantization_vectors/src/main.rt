@@ -1,6 +1,8 @@
 // The published figures of document 000, its tables of narrow and full range at 8, 10 and 12 bits, and what its notes say of the
 // legacy full range (white and the highest difference are clamped, at 12 bits to 4092), run through the library.
 // A line has a row of a table: the code of each channel that it speaks of, R' G' B' Y', or Cb Cr.
+#![tactic(auto)]
+
 use libc::STDOUT_FILENO;
 use quantization::Quantized;
 

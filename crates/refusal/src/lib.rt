@@ -1,7 +1,8 @@
 // What writing answers, and the numbers of all refusals (document 01, "Numbers on the refusal slip"). specs/Refusal.antt has the same rows.
+#![tactic(auto)]
 
 // What writing into an output answers: done, or the refusal's number.
-#[derive(Drop)]
+#[derive(Clone, Copy)]
 pub enum Written {
     Done,
     Refused(u8),

@@ -1,4 +1,6 @@
 // How the codes of one range, depth and kind stand for values (document 01, "Codes and floats").
+#![tactic(auto)]
+
 ghost use Rattle.std.specs.Prelude.{◌≡◌};
 ghost use Rattle.parameters.specs.Parameters.{bits_of};
 ghost use Rattle.scale.specs.Scale.{low_end, high_end, scale_of};
@@ -7,7 +9,7 @@ ghost use Rattle.scale.specs.Value.{value_of};
 use parameters::{Depth, Kind, Range};
 
 // How a number between two codes is rounded: floor(1/2 + x), or Round(x), a half away from zero.
-#[derive(Drop)]
+#[derive(Clone, Copy)]
 pub enum Rounding {
     HalfUp,
     HalfAway,
@@ -16,7 +18,7 @@ pub enum Rounding {
 // `base` is the code of the value 0, `span` the codes in a unit of value, `top` the highest code, `low` and `high` the ends
 // that the code of a value is clamped to. `rounding` says which of the paper's roundings it has: clamped at 0 or above the two
 // give one code, and only what is cut tells them apart.
-#[derive(Drop)]
+#[derive(Clone, Copy)]
 pub struct Scale {
     pub base: u16,
     pub span: u16,

@@ -6,7 +6,7 @@ use parameters::{Depth, Kind, KnownDepth, KnownRange, Range};
 use scale::Scale;
 
 // The scale of a channel, or that the paper has no such channel.
-#[derive(Drop)]
+#[derive(Clone, Copy)]
 pub enum ChannelScale {
     Known(Scale),
     Unknown,

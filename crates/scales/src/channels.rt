@@ -7,7 +7,7 @@ use layout::Layout;
 use parameters::{Depth, Kind, KnownDepth, KnownRange, Range};
 use scale::Scale;
 
-#[derive(Drop)]
+#[derive(Clone, Copy)]
 pub struct Scales {
     pub channel0: Scale,
     pub channel1: Scale,
@@ -15,7 +15,7 @@ pub struct Scales {
 }
 
 // The scales of a layout, or that there is no such layout.
-#[derive(Drop)]
+#[derive(Clone, Copy)]
 pub enum LayoutScales {
     Known(Scales),
     Unknown,

@@ -1,4 +1,6 @@
 // The scales of a channel, and of a layout's three channels, by the paper's numbers (document 01, "Codes and floats").
+#![tactic(auto)]
+
 mod channel;
 mod channels;
 

@@ -1,5 +1,7 @@
 // Lines of picture points: unpacked to codes, packed from codes, decoded to values, encoded from values; one point, which is a
 // line of one; and one channel's field of a point.
+#![tactic(auto)]
+
 pub use decoding::{DecodedPoint, decode_line, decode_point};
 pub use encoding::{encode_line, encode_point};
 pub use field::{Field, FieldBytes, FieldCode, field_bytes, field_code};

@@ -1,4 +1,6 @@
 // A stack of cards, and an item found in it (document 01, "Card" and "Numbers on the refusal slip").
+#![tactic(auto)]
+
 ghost use Rattle.std.specs.Prelude.{◌≡◌};
 ghost use Rattle.stack.specs.Stack.{whole_stack};
 ghost use Rattle.stack.specs.Finding.{located, part, placed};
@@ -7,7 +9,7 @@ use card_edition::edition;
 use card_table::Card;
 
 // Where a card is, counted in cards from 0, or the refusal's number.
-#[derive(Drop)]
+#[derive(Clone, Copy)]
 pub enum Found {
     At(usize),
     Refused(u8),

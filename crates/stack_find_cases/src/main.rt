@@ -1,5 +1,7 @@
 // Looks for items at editions in the stack on standard input, and in bytes that are none. The gate runs it on
 // samples/archive.stack.
+#![tactic(auto)]
+
 ghost use Rattle.std.specs.Prelude.{◌≡◌};
 ghost use Rattle.stack.specs.Finding.{located};
 ghost use Rattle.card_finder.specs.Number.{refusal_of};

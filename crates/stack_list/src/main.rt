@@ -1,4 +1,6 @@
 // Lists the stack on standard input: the program itself. The gate runs it on the paper's example.
+#![tactic(auto)]
+
 use libc::STDIN_FILENO;
 
 fn main() {

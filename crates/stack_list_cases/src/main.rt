@@ -1,5 +1,7 @@
 // Lists the stacks of the files that its arguments name, one after the other, each under a line with the file's name. The
 // gate runs it on the stacks in data/.
+#![tactic(auto)]
+
 use libc::STDOUT_FILENO;
 
 // Lists the stack of one file under its name, or says why the file can't be opened.

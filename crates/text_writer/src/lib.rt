@@ -1,4 +1,6 @@
 // Text stored in an output: pieces one after the other, and numbers as decimal digits.
+#![tactic(auto)]
+
 ghost use Rattle.std.specs.Prelude.{◌≡◌, [], ◌∷◌, length, ◌+◌, ◌%◌, min};
 ghost use Rattle.text_writer.specs.Decimal.{digit, decimal};
 ghost use Rattle.text_writer.specs.Put.{Put};
@@ -25,7 +27,7 @@ pub fn put(piece: &[u8], at: usize, out: &mut [u8]) -> usize
         return end;
     }
     let length = end - at;
-    bytes::copy(&piece[..length], &mut out[at..end]);
+    out[at..end].copy_from_slice(&piece[..length]);
     end
 }
 

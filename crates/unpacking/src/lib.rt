@@ -1,5 +1,7 @@
 // A packed line of points or groups unpacked to codes, three a point in channel order (document 01, "Layout" and "Codes and
 // floats").
+#![tactic(auto)]
+
 ghost use Rattle.std.specs.Prelude.{◌≡◌, length};
 ghost use Rattle.line.specs.Answer.{unpack_answer, unpack_output};
 
