@@ -4,9 +4,9 @@ use mathlib.Core.List.{List, [], ◌∷◌, ◌++◌, append_assoc, append-nil}
 use Prim.Native.Nat.{ℕ, ◌+◌, ◌-◌, ◌≤◌, suc}
 use native.Mathlib.Nat.{add-zero, add-suc, suc-add, zero-add}
 use native.Mathlib.Omega.{arith}
-use borrow.Rule.Slice.PartMut.{mid_of, post_of, put_mid, mid_len, Post-is}
+use borrow.Rule.Slice.PartMut.{put_mid, Post-is}
 use lib.ListN.{length, take, drop, set, drop_of_length-le}
-use lib.Seq.{sets, sets-eq, take_all}
+use lib.Seq.{sets, sets-eq}
 
 module _ {A : Type 0} where
   -- two runs of stores, the second right after the first
@@ -24,13 +24,9 @@ module _ {A : Type 0} where
       ∙ append-nil p
 
   -- a part of a list, after a copy into the whole of it
-  pub copied : (xs p ys : List A) (at : ℕ) → at + length p ≤ length xs
-      → ys ≡ take (length p) p ++ drop (length p) (mid_of at (at + length p - at) xs) → put_mid at (at + length p - at) xs ys ≡ sets xs at p
-  copied xs p ys at h e =
+  pub copied : (xs p ys : List A) (at : ℕ) → at + length p ≤ length xs → ys ≡ p → put_mid at (at + length p - at) xs ys ≡ sets xs at p
+  copied xs p ys at h is =
       let end = at + length p in
-      let mid = mid_of at (end - at) xs in
-      let short : length mid ≤ length p = omega (arith, mid_len at end xs h) in
-      let is : ys ≡ p = e ∙ ap₂ (λ (a b : List A). a ++ b) (take_all (length p) p (omega arith)) (drop_of_length-le mid short) ∙ append-nil p in
       ap₂ (λ (a b : List A). take at xs ++ (a ++ b)) is (Post-is at end xs (omega arith))
       ∙ sym (append_assoc (take at xs) p (drop end xs))
       ∙ sym (sets-eq p xs at h)

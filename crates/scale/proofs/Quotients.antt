@@ -42,11 +42,17 @@ div_whole f (fin t m e) (fin false n d) s a b v w B =
     cond_no (eqb n 0) (cond (eqb m 0) nan (inf (unlike t false))) (round f (unlike t false) (m * up e * down d) (n * up d * down e)) (some n d b B w.1)
     ∙ ap (λ (z : Bool). round f z (m * up e * down d) (n * up d * down e)) (by_positive t ∙ v.0)
     ∙ rw (p, q) (round_same f s (a * down e * down d) (b * down d * down e) a b (mul-pos (mul-pos B (down_pos d)) (down_pos e)) B (simp (mul_assoc, mul_comm, mul_left_comm)))
+div_whole f nan y s a b v w B = elim v [ ]
+div_whole f (inf _) y s a b v w B = elim v [ ]
+div_whole f (fin t m e) nan s a b v w B = elim w [ ]
+div_whole f (fin t m e) (inf _) s a b v w B = elim w [ ]
 
 -- and by zero an infinity
 div_zero : (f : Format) (x : Float) (s : Bool) (n : ℕ) → HasValue x s (suc n) 1 → div f x (fin false 0 (pos 0)) ≡ inf s
 unfolding div
 div_zero f (fin t m e) s n v = cond_no (eqb m 0) nan (inf (unlike t false)) (some m e (suc n) (zero-lt-suc n) v.1) ∙ ap inf (by_positive t ∙ v.0)
+div_zero f nan s n v = elim v [ ]
+div_zero f (inf _) s n v = elim v [ ]
 
 -- ---- whole numbers that an f32 holds
 

@@ -70,13 +70,13 @@ module _ (p xs : List ℕ) (at : ℕ) where
         (λ k m. ap (sets (sets xs at (take n p)) (at + length (take n p))) (let g : length p ≤ n = omega (arith, e, m) in drop_of_length-le p g))
         (λ k m. sets_past (sets xs at (take n p)) (at + length (take n p)) (drop n p) (omega (arith, e, m, front_length, length-sets xs at (take n p))))
 
-    pub put_front : (ys : List ℕ) → ys ≡ take (length (take n p)) (take n p) ++ drop (length (take n p)) (mid_of at n xs) → Put p at xs (put_mid at n xs ys) end
+    pub put_front : (ys : List ℕ) → ys ≡ take n p → Put p at xs (put_mid at n xs ys) end
     put_front ys c =
         let q = take n p in
         let m : n ≡ at + length q - at = omega (arith, front_length) in
         let s : put_mid at n xs ys ≡ sets xs at q
         = ap (λ (k : ℕ). put_mid at k xs ys) m
-        ∙ copied xs q ys at (omega (arith, front_length, front_fits)) (c ∙ ap (λ (k : ℕ). take (length q) q ++ drop (length q) (mid_of at k xs)) m) in
+        ∙ copied xs q ys at (omega (arith, front_length, front_fits)) c in
         record { holds = s ∙ sym rest ∙ sets_join xs at q (drop n p) ∙ ap (sets xs at) (take-append-drop n p); ends = e }
 
 -- a text at the front of an output that can hold it, and behind it what was there before

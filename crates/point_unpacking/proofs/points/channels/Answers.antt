@@ -1,0 +1,23 @@
+-- `point_unpacking::channels` meets its contract: each turn stores one channel. Assumes nothing.
+use mathlib.Core.Path.{◌∙◌}
+use Prim.Native.Nat.{◌-◌}
+use native.Mathlib.Omega.{arith}
+use Rattle.line.specs.Line.{point_code}
+use Rattle.line.proofs.Channels.{channels_none, channels_more, channels_all}
+use Rattle.point_unpacking.proofs.Codes.{codes-whole}
+use Rattle.point_unpacking.proofs.points.channels.Goals as goal
+
+pub loop-k-init : goal.loop-k-init
+loop-k-init c = let a = c.args in
+    (omega arith, channels_none (point_code a.layout a.packed.now) a.codes.now a.n)
+
+pub loop-k-preserved : goal.loop-k-preserved
+loop-k-preserved c = let l = c.loop-k in
+    let a = c.args in
+    (omega arith, channels_more (point_code a.layout a.packed.now) a.codes.now l.codes _ a.n l.k l.invariant.1 c.one_channel.ensures)
+
+pub returns : goal.returns
+returns c = let a = c.args in
+    let l = c.loop-k in
+    channels_all (point_code a.layout a.packed.now) 0 a.codes.now l.codes a.n l.k (omega arith) c.requires.packed_len.1 l.invariant.1
+    ∙ codes-whole a.layout a.packed.now a.n c.requires.layout_value c.requires.packed_len.0
