@@ -19,6 +19,7 @@ overflow_cast-result c =
 pub returns-in-Held : goal.returns-in-Held
 returns-in-Held c =
     let within : (c.in-Held.field.first ≤ 8) × (c.in-Held.field.count ≤ 8) = held_small _ _ _ (sym c.field_bytes.ensures ∙ c.in-Held.is) in
-    let done =
-    rw (← c.layout_of.ensures, ← c.field_bytes.ensures, c.in-Held.is) (kept c.in-Held.field.count (omega (arith, within)), refl) in
-    record { answer = done.0; memory = done.1 }
+    record {
+      answer = rw (← c.layout_of.ensures, ← c.field_bytes.ensures, c.in-Held.is) (kept c.in-Held.field.count (omega (arith, within)));
+      memory = rw (← c.layout_of.ensures, ← c.field_bytes.ensures, c.in-Held.is) refl;
+    }

@@ -8,7 +8,7 @@ use lib.ListN.{length}
 use Rattle.layout.specs.Layout.{grouped, valid_layout}
 use Rattle.layout.proofs.Facts.{valid_groups_lem, groups_valid, no_groups_lem}
 use Rattle.scales.specs.inner.Fitted.{Fitted}
-use Rattle.scales.proofs.Scales.{scales_told, scales_unknown}
+use Rattle.scales.proofs.OfLayouts.{scales_told, scales_unknown}
 use Rattle.line.specs.declared.LineAnswer.TheVariants.{Points}
 use Rattle.line.proofs.Grouped.{of_groups_lem, of_points_lem}
 use Rattle.line.proofs.GroupAnswers.{unpack_sizes, unpack_outside, unpack_unfit, unpack_points_lem}

@@ -9,7 +9,7 @@ use lib.ListN.{length}
 use Rattle.layout.specs.Layout.{grouped, valid_layout}
 use Rattle.layout.proofs.Facts.{valid_groups_lem, groups_valid, no_groups_lem}
 use Rattle.scales.specs.inner.Fitted.{Fitted}
-use Rattle.scales.proofs.Scales.{scales_told, scales_unknown}
+use Rattle.scales.proofs.OfLayouts.{scales_told, scales_unknown}
 use Rattle.line.specs.declared.ClampedAnswer.TheVariants.{Points}
 use Rattle.line.specs.inner.Cuts.{cuts_told}
 use Rattle.line.proofs.Grouped.{group_packed, of_groups_lem, of_points_lem}

@@ -10,7 +10,7 @@ use lib.ListN.{length}
 use Rattle.layout.specs.Layout.{grouped, valid_points}
 use Rattle.layout.proofs.Facts.{Points as PointFacts, points_say, not_grouped}
 use Rattle.scales.specs.inner.Fitted.{Fitted}
-use Rattle.scales.proofs.Scales.{scales_told, scales_unknown}
+use Rattle.scales.proofs.OfLayouts.{scales_told, scales_unknown}
 use Rattle.line.proofs.Own.{own_answer, own_other}
 use Rattle.line.proofs.Answers.{refuses, counts, fits, triple_le, unpack_outside, unpack_unfit, unpack_points_lem}
 use Rattle.point_decoding.proofs.Own.{own_values}

@@ -10,7 +10,7 @@ use lib.ListN.{length}
 use Rattle.layout.specs.Layout.{grouped, valid_points, valid_layout}
 use Rattle.layout.proofs.Facts.{valid_says, not_grouped, points-valid, no_points}
 use Rattle.scales.specs.inner.Fitted.{Fitted}
-use Rattle.scales.proofs.Scales.{scales_told, scales_unknown}
+use Rattle.scales.proofs.OfLayouts.{scales_told, scales_unknown}
 use Rattle.line.specs.inner.Cuts.{cuts_told}
 use Rattle.line.proofs.Own.{own_packed, own_answer, own_other}
 use Rattle.line.proofs.Answers.{refuses_clamped, counts_clamped, fits, all_told}

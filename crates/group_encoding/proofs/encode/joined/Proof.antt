@@ -7,7 +7,7 @@ use lib.Dec.{lit<}
 use Rattle.lists.proofs.Counts.{byte_of, one_le}
 use Rattle.scales.specs.Channel.{scale_at}
 use Rattle.float_scale.specs.inner.Floats.{Fine}
-use Rattle.scales.proofs.Scales.{fine_at}
+use Rattle.scales.proofs.OfLayouts.{fine_at}
 use Rattle.line_values.specs.Encode.{quantized_of}
 use Rattle.layout.proofs.Facts.{groups_valid}
 use Rattle.group_encoding.proofs.Groups.{one-difference, looked-number, IsCode, coded, cuts_more, number_is}

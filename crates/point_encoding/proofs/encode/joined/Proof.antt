@@ -15,7 +15,7 @@ use Rattle.layout.specs.Layout.{valid_layout}
 use Rattle.layout.proofs.Facts.{points-valid}
 use Rattle.scales.specs.Channel.{scale_at}
 use Rattle.float_scale.specs.inner.Floats.{Fine}
-use Rattle.scales.proofs.Scales.{fine_at}
+use Rattle.scales.proofs.OfLayouts.{fine_at}
 use Rattle.point_joining.proofs.Places.{join_is}
 use Rattle.line_values.specs.Encode.{quantized_of, value_cut}
 use Rattle.line_values.proofs.Encodes.{number_at, placed}
