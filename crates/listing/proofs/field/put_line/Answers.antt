@@ -1,0 +1,7 @@
+-- `listing::field::put_line` meets its contract, piece by piece. Assumes nothing.
+use Rattle.listing.proofs.Lines.{line_put}
+use Rattle.listing.proofs.field.put_line.Goals as goal
+
+pub returns : goal.returns
+returns c = let a = c.args in
+    line_put a.words.now a.n c.put-at1.ensures c.put_number-at2.ensures c.put_byte.ensures
