@@ -1,6 +1,6 @@
 -- What is shown of any bytes. Assumes nothing.
 use mathlib.Core.Path.{◌≡◌, refl, sym, ap, ◌∙◌, subst}
-use mathlib.Core.Bool.{Bool, true, false, not, cond, ◌&&◌, ◌||◌, and_false}
+use mathlib.Core.Bool.{Bool, true, false, not, cond, ◌&&◌, ◌||◌, and-false}
 use mathlib.Core.Logic.{◌⊎◌, inl, inr, ⊎_elim}
 use mathlib.Core.List.{List}
 use Prim.Native.Nat.{ℕ, ◌≤◌}
@@ -30,7 +30,7 @@ at_most w x e = go (has_access w && has_access e && access_known x)
 -- closed to an edition without access
 unseen : (w x e : ℕ) → has_access e ≡ false → access_of w x e ≡ closed
 unfolding access_of
-unseen w x e h = rw (h, and_false (has_access w))
+unseen w x e h = rw (h, and-false (has_access w))
 
 -- else as it stands
 stands : (w x e : ℕ) → (access_of w x e ≡ closed) ⊎ ((access_of w x e ≡ x) × (has_access e ≡ true) × (has_access w ≡ true))
@@ -48,7 +48,7 @@ silent w x e = go (has_access e) refl
   where
     go : (t : Bool) → has_access e ≡ t → not (has_access e) && not (eqb (access_of w x e) closed) ≡ false
     go true h = rw h
-    go false h = rw (unseen w x e h) (and_false (not (has_access e)))
+    go false h = rw (unseen w x e h) (and-false (not (has_access e)))
 
 -- ---- the facts that are shown
 

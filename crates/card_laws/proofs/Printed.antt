@@ -1,6 +1,6 @@
 -- The rows, and the claims on access, in the numbers of editions 1 to 4. Assumes nothing.
 use mathlib.Core.Path.{◌≡◌, refl, sym, ap, ap₂, ◌∙◌}
-use mathlib.Core.Bool.{Bool, true, false, not, cond, ◌&&◌, ◌||◌, and_false, false≢true}
+use mathlib.Core.Bool.{Bool, true, false, not, cond, ◌&&◌, ◌||◌, and-false, false≢true}
 use mathlib.Core.Logic.{◌⊎◌, inl, inr, ⊎_elim}
 use mathlib.Core.List.{◌∷◌}
 use Prim.Native.Nat.{ℕ, zero, suc, ◌≤◌}
@@ -36,7 +36,7 @@ between (suc (suc (suc (suc zero)))) = refl
 between (suc (suc (suc (suc (suc e))))) =
     let n : ℕ = suc (suc (suc (suc (suc e)))) in
     let no : (k : ℕ) → k ≤ 4 → false ≡ eqb n k = λ k l. sym (ne_eqb n k (λ q. omega arith)) in
-    ap (λ (t : Bool). leb 1 n && t) (lt-leb n 4 (omega arith)) ∙ and_false (leb 1 n)
+    ap (λ (t : Bool). leb 1 n && t) (lt-leb n 4 (omega arith)) ∙ and-false (leb 1 n)
     ∙ (λ i. no 1 (omega arith) i || no 2 (omega arith) i || no 3 (omega arith) i || no 4 (omega arith) i)
 
 known_least : (e : ℕ) → edition_known e ≡ true → 1 ≤ e
@@ -65,7 +65,7 @@ holds (suc (suc (suc (suc (suc n))))) e k =
     let w : ℕ = suc (suc (suc (suc (suc n)))) in
     let l = known_most e k in
     let no : (k : ℕ) → k ≤ 4 → false ≡ eqb w k = λ k l. sym (ne_eqb w k (λ q. omega arith)) in
-    ap (λ (t : Bool). leb 2 w && t) (lt-leb w e (omega arith)) ∙ and_false (leb 2 w)
+    ap (λ (t : Bool). leb 2 w && t) (lt-leb w e (omega arith)) ∙ and-false (leb 2 w)
     ∙ (λ i. no 2 (omega arith) i && (eqb e 2 || eqb e 3 || eqb e 4) || no 3 (omega arith) i && (eqb e 3 || eqb e 4) || no 4 (omega arith) i && eqb e 4)
 
 -- an edition without access is 1

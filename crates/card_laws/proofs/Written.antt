@@ -1,6 +1,6 @@
 -- What a card that was written from valid facts shows at every edition. Assumes nothing.
 use mathlib.Core.Path.{◌≡◌, refl, sym, ap, ap₂, ◌∙◌}
-use mathlib.Core.Bool.{Bool, true, false, not, cond, ◌&&◌, ◌||◌, and_false}
+use mathlib.Core.Bool.{Bool, true, false, not, cond, ◌&&◌, ◌||◌, and-false}
 use Prim.Native.Nat.{ℕ}
 use native.Mathlib.Omega.{arith}
 use borrow.Author.Tests.{ltb-false, eqb-true, eq-eqb, le-leb, not-false}
@@ -92,14 +92,14 @@ module _ (e e' : ℕ) (f : Facts) (v : At e f) where
 
   access_is : access_unknown e f.access e' ≡ false
   unfolding access_unknown
-  access_is = ap (λ (t : Bool). table_holds e e' && not t) (sizes f v.facts).access ∙ and_false (table_holds e e')
+  access_is = ap (λ (t : Bool). table_holds e e' && not t) (sizes f v.facts).access ∙ and-false (table_holds e e')
 
   rest_right : end_wrong (card_bytes e f) e' ≡ false
   unfolding end_wrong card_bytes
   rest_right =
       let z = sizes f v.facts in
       (λ i. not (has_access e) && not (eqb (end_is e f z i) 0) || table_holds e e' && not (eqb (rest_is e f z i) 0))
-      ∙ ap₂ ◌||◌ v.silent (and_false (table_holds e e'))
+      ∙ ap₂ ◌||◌ v.silent (and-false (table_holds e e'))
 
   long_is : eqb (length (card_bytes e f)) card_size ≡ true
   long_is = ap (λ (n : ℕ). eqb n card_size) (length-card e f)

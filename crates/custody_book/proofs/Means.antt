@@ -1,6 +1,6 @@
 -- The book says what demand 3 asks for. Assumes nothing.
 use mathlib.Core.Path.{◌≡◌, refl, sym, ap, ap₂, ◌∙◌}
-use mathlib.Core.Bool.{Bool, true, false, not, cond, ◌&&◌, ◌||◌, and_false}
+use mathlib.Core.Bool.{Bool, true, false, not, cond, ◌&&◌, ◌||◌, and-false}
 use mathlib.Core.List.{List, [], ◌∷◌}
 use Prim.Native.Nat.{ℕ, ◌*◌, ◌/◌, ◌%◌, ◌<◌}
 use native.Mathlib.Nat.{div-add-mod, mul_comm, mul-div_cancel, mul-mod_left}
@@ -232,7 +232,7 @@ module _ (a : Asked) where
         floats = λ g h c n b k m.
             (decodes_each_code f.layout (points_of f.layout a.packed) a.packed (let w = whole f.layout a.packed c in record { valid = v; whole = w.0; bytes = b; points = w.1 })).1 k m
             ∙ ap (λ (vs : List Float). named (kind_of f.layout.model (k % 3)) (get_or vs k nan)) (sym (all-decoded g h c n).1);
-        misfit = λ g h n. decoded-by g h false (ap (λ (t : Bool). captured f.layout a.packed && t) n ∙ and_false (captured f.layout a.packed));
+        misfit = λ g h n. decoded-by g h false (ap (λ (t : Bool). captured f.layout a.packed && t) n ∙ and-false (captured f.layout a.packed));
       }
 
   pub book_means : valid_layout f.layout ≡ true → Meaning a (book a)

@@ -1,6 +1,6 @@
 -- The claims of specs/Printed.antt. Assumes nothing.
 use mathlib.Core.Path.{◌≡◌, refl, sym, ap, ap₂, ◌∙◌}
-use mathlib.Core.Bool.{Bool, true, false, not, cond, ◌&&◌, ◌||◌, and_false, false≢true}
+use mathlib.Core.Bool.{Bool, true, false, not, cond, ◌&&◌, ◌||◌, and-false, false≢true}
 use mathlib.Core.List.{List, [], ◌∷◌}
 use Prim.Native.Nat.{ℕ, ◌*◌, ◌/◌, ◌%◌, ◌≤◌, ◌<◌}
 use native.Mathlib.Omega.{arith}
@@ -117,7 +117,7 @@ or_neither false u v h = not-true (u || v) h
 first-lacking : (g r d one two three : Bool) → not r ≡ true → not g ≡ true → one && (g || r || d) || two && (g || r) || three && g ≡ one && d
 first-lacking g true d one two three n m = absurd (false≢true n)
 first-lacking true false d one two three n m = absurd (false≢true m)
-first-lacking false false d one two three n m = or_neither (one && d) (two && false) (three && false) (ap₂ (λ (x y : Bool). not (x || y)) (and_false two) (and_false three))
+first-lacking false false d one two three n m = or_neither (one && d) (two && false) (three && false) (ap₂ (λ (x y : Bool). not (x || y)) (and-false two) (and-false three))
 
 pub printed_as_first : PrintedAsFirst
 printed_as_first a h t m =

@@ -8,8 +8,8 @@ ghost use Rattle.listing_program.specs.inner.Input.{Within};
 ghost use Rattle.listing_program.specs.Ran.{ListedAs, fits, Holds};
 
 use card_table::Card;
-use libc::{STDERR_FILENO, STDOUT_FILENO};
 use listing::Text;
+use std::io::{Read, Write};
 
 // What the program did.
 #[derive(Clone, Copy)]
@@ -43,23 +43,22 @@ fn fit(buffer: usize, text: usize) -> bool
 }
 
 // Reads once, and answers how many bytes came to the front of `rest`; none at the input's end.
-fn read_some(file: i32, rest: &mut [u8]) -> Input
+fn read_some<R: Read>(input: &mut R, rest: &mut [u8]) -> Input
     ensures { Within result (length rest.new) }
 {
-    let got = libc::read(file, rest);
-    if got < 0 {
-        return Input::Failed;
+    match input.read(rest) {
+        Ok(got) => Input::Bytes(got),
+        Err(_) => Input::Failed,
     }
-    Input::Bytes(io::count(got, rest))
 }
 
 // Reads until the buffer is full, the input ends or a read fails. A pipe may give its bytes in any pieces.
-fn read_all(file: i32, buffer: &mut [u8]) -> Input
+fn read_all<R: Read>(input: &mut R, buffer: &mut [u8]) -> Input
     ensures { Within result (length buffer.new) }
 {
     let mut done: usize = 0;
     while done < buffer.len() {
-        let got = read_some(file, &mut buffer[done..]);
+        let got = read_some(input, &mut buffer[done..]);
         let Input::Bytes(n) = got else {
             return Input::Failed;
         };
@@ -82,32 +81,47 @@ fn text_of(stack: &[u8], text: &mut [u8]) -> usize
     }
 }
 
-fn print(text: &[u8]) {
-    if !io::write_all(STDOUT_FILENO, text) {
-        io::write_all(
-            STDERR_FILENO,
-            b"stack list: standard output could not be written\n",
-        );
+// Tells what went wrong. (Where that can't be told either, there is no one left to tell.)
+fn tell<W: Write>(errors: &mut W, message: &[u8]) {
+    match errors.write_all(message) {
+        Ok(()) => (),
+        Err(_) => (),
     }
 }
 
-// Reads a stack from an open file into the buffer, puts its list at the front of the text and prints that. Where reading
-// fails, nothing is listed. Refused by 13: a buffer that is not of MOST_READ bytes, or a text that could not hold every
-// list. The file stays open.
-pub fn run(file: i32, buffer: &mut [u8], text: &mut [u8]) -> Ran
+fn print<W: Write, E: Write>(output: &mut W, errors: &mut E, text: &[u8]) {
+    match output.write_all(text) {
+        Ok(()) => (),
+        Err(_) => tell(
+            errors,
+            b"stack list: standard output could not be written\n",
+        ),
+    }
+}
+
+// Reads a stack from an input into the buffer, puts its list at the front of the text and prints that on an output. Where reading
+// fails, nothing is listed. What went wrong is told on `errors`. Refused by 13: a buffer that is not of MOST_READ bytes, or a text
+// that could not hold every list.
+pub fn run<R: Read, W: Write, E: Write>(
+    input: &mut R,
+    output: &mut W,
+    errors: &mut E,
+    buffer: &mut [u8],
+    text: &mut [u8],
+) -> Ran
     ensures { Holds result buffer.old buffer.new text.old text.new }
 {
     if !fit(buffer.len(), text.len()) {
         return Ran::Refused(refusal::WRONG_LINE_OR_OUTPUT);
     }
-    match read_all(file, buffer) {
+    match read_all(input, buffer) {
         Input::Bytes(n) => {
             let bytes = text_of(&buffer[..n], text);
-            print(&text[..bytes]);
+            print(output, errors, &text[..bytes]);
             Ran::Listed(n, bytes)
         }
         Input::Failed => {
-            io::write_all(STDERR_FILENO, b"stack list: the stack could not be read\n");
+            tell(errors, b"stack list: the stack could not be read\n");
             Ran::NotRead
         }
     }

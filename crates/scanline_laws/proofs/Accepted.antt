@@ -1,6 +1,6 @@
 -- A line of a valid layout, of no more points than a line may have, is accepted into an output of its own length. Assumes nothing.
 use mathlib.Core.Path.{◌≡◌, sym, ap, ap₂, ◌∙◌}
-use mathlib.Core.Bool.{Bool, true, false, not, ◌&&◌, and_false}
+use mathlib.Core.Bool.{Bool, true, false, not, ◌&&◌, and-false}
 use mathlib.Core.List.{List}
 use Prim.Native.Nat.{ℕ, ◌+◌, ◌*◌, ◌/◌, ◌%◌, ◌≤◌, ◌<◌}
 use native.Mathlib.Nat.{mul_comm, mul-div_cancel, mul-mod_left, div-add-mod'}
@@ -58,7 +58,7 @@ part-points l size bytes e =
 pub too_many : (l : Layout) (n size bytes : ℕ) → most_points < n → size ≡ 3 * n → packable l size bytes ≡ false
 too_many l n size bytes h e =
     let part = eqb (size % 3) 0 in
-    ap (λ (t : Bool). t && eqb bytes (bytes_for l (size / 3))) (ap (λ (t : Bool). part && t) (lt-leb (size / 3) 4096 (omega arith)) ∙ and_false part)
+    ap (λ (t : Bool). t && eqb bytes (bytes_for l (size / 3))) (ap (λ (t : Bool). part && t) (lt-leb (size / 3) 4096 (omega arith)) ∙ and-false part)
 
 pub packing_accepted : (l : Layout) (n : ℕ) (cs : List ℕ) (bytes : ℕ) → CodeLine l n cs → bytes ≡ bytes_for l n → n ≤ most_points → pack_answer l cs bytes ≡ Points n
 unfolding pack_answer

@@ -1,6 +1,6 @@
 -- The claims of specs/Claims.antt. Assumes nothing.
 use mathlib.Core.Path.{◌≡◌, refl, sym, ap, ap₂, ◌∙◌}
-use mathlib.Core.Bool.{Bool, true, false, not, cond, ◌&&◌, ◌||◌, and_false}
+use mathlib.Core.Bool.{Bool, true, false, not, cond, ◌&&◌, ◌||◌, and-false}
 use mathlib.Core.Logic.{inl, inr}
 use mathlib.Core.List.{List, []}
 use Prim.Native.Nat.{ℕ, ◌+◌, ◌*◌, ◌/◌, ◌%◌, ◌<◌}
@@ -124,7 +124,7 @@ unfolding unpack_answer
 refuses_too_many_packed l bytes codes ok h =
     let part = eqb (bytes % l.bytes) 0 in
     let many : leb (points_in l bytes) 4096 ≡ false = lt-leb (points_in l bytes) 4096 h in
-    pass _ (ap not ok) (stop _ (ap (λ (t : Bool). not (t && eqb codes (3 * points_in l bytes))) (ap (λ (t : Bool). part && t) many ∙ and_false part)))
+    pass _ (ap not ok) (stop _ (ap (λ (t : Bool). not (t && eqb codes (3 * points_in l bytes))) (ap (λ (t : Bool). part && t) many ∙ and-false part)))
 
 pub refuses_parts_of_groups : RefusesPartsOfGroups
 unfolding unpack_answer

@@ -1,0 +1,12 @@
+-- `point_decoding::channels` meets its contract: each turn stores one channel. Assumes nothing.
+use mathlib.Core.Path.{◌≡◌}
+use Prim.Native.Nat.{◌-◌, ◌≤◌}
+use Rattle.point_decoding.specs.inner.Points.{point_value}
+use Rattle.line.specs.inner.Channels.{channels_written}
+use Rattle.point_decoding.proofs.points.channels.Given as goal
+
+abbrev pub invariant-loop-k : goal.invariant-loop-k
+invariant-loop-k l = (l.k ≤ 3) × (l.out ≡ channels_written l.initial.out (point_value l.layout l.packed) l.n l.k)
+
+abbrev pub decreases-loop-k : goal.decreases-loop-k
+decreases-loop-k l = 3 - l.k

@@ -1,0 +1,17 @@
+-- `point_encoding::encode::eight` meets its contract: each turn fills in one number, and counts one point's cuts. Assumes nothing.
+use Prim.Native.Nat.{◌+◌, ◌-◌}
+use native.Mathlib.Omega.{arith}
+use mathlib.Core.Path.{◌≡◌}
+use Rattle.lists.proofs.Filled.{filled_all}
+use Rattle.point_encoding.proofs.Encodes.{cuts_le}
+use Rattle.point_encoding.proofs.encode.eight.Goals as goal
+
+pub overflow_add-cuts : goal.overflow_add-cuts
+overflow_add-cuts c = let l = c.loop-j in
+    omega (arith, l.invariant.3, c.joined-point.ensures.cuts, cuts_le c.args.layout c.args.values.now (c.args.i + l.j + 1), c.requires.3)
+
+pub returns : goal.returns
+returns c =
+    let l = c.loop-j in
+    let e : l.j ≡ 8 = omega arith in
+    record { numbers = filled_all 0 l.invariant.1 (rw e at l.invariant.2); cuts = rw e at l.invariant.3 }
