@@ -2,36 +2,32 @@
 // gate runs it on the stacks in data/.
 #![tactic(auto)]
 
-use libc::STDOUT_FILENO;
+use std::fs::File;
+use std::{env, io};
 
 // Lists the stack of one file under its name, or says why the file can't be opened.
-fn list_file(name: &[u8]) {
-    io::write_all(STDOUT_FILENO, name);
-    io::write_all(STDOUT_FILENO, b"\n");
-    let file = os::open_read(name);
-    if file < 0 {
-        os::fail(name);
-        return;
+fn list_file(rt: &HostRuntime, name: &str) -> io::Result<()> {
+    println!(rt; "{name}")?;
+    match File::open(rt, name) {
+        Ok(mut file) => {
+            let mut buffer = [0u8; listing_program::MOST_READ];
+            let mut text = [0u8; listing_program::LONGEST];
+            listing_program::run(
+                &mut file,
+                &mut rt.stdout(),
+                &mut rt.stderr(),
+                &mut buffer,
+                &mut text,
+            );
+            Ok(())
+        }
+        Err(error) => eprintln!(rt; "{name}: {error}"),
     }
-    let mut buffer = [0u8; listing_program::MOST_READ];
-    let mut text = [0u8; listing_program::LONGEST];
-    listing_program::run(file, &mut buffer, &mut text);
-    libc::close(file);
 }
 
-// The same for the file that an argument names.
-fn list_argument(index: usize) {
-    let mut name = io::buffer();
-    let length = os::arg(index, &mut name);
-    if os::errno() != 0 {
-        os::fail(b"a file's name");
-        return;
+fn main(rt: HostRuntime) -> io::Result<()> {
+    for name in env::args(&rt)?.skip(1) {
+        list_file(&rt, &name)?;
     }
-    list_file(&name[..length]);
-}
-
-fn main() {
-    for index in 1..os::arg_count() {
-        list_argument(index);
-    }
+    Ok(())
 }

@@ -76,6 +76,6 @@ returns c =
     of_groups_lem a.layout _ _ _ _ t.0
     (counts_clamped _
     (encode_points_lem a.layout _ _ t.1 t.0 c.if-values-points.false (c.if-not-values-points.false) (sym c.all_numbers.ensures ∙ c.if-not-all_numbers.false)
-    ∙ ap₂ Points (omega (arith, fit)) (sym (c.cuts_told.ensures ∙ ap cuts_told p.ensures.0 ∙ told-all)))
-    (p.ensures.1 ∙ sym (group_packed a.layout (valid_groups_lem a.layout t.1 t.0) _))) in
+    ∙ ap₂ Points (omega (arith, fit)) (sym (c.cuts_told.ensures ∙ ap cuts_told p.ensures.cuts ∙ told-all)))
+    (p.ensures.memory ∙ sym (group_packed a.layout (valid_groups_lem a.layout t.1 t.0) _))) in
     record { answer = done.0; memory = done.1 }

@@ -63,6 +63,6 @@ returns c =
     let done =
     own_answer _ _ _ _ _ told.0
     (counts_clamped _
-    (encode_points_lem _ own _ _ valid fit (sym c.all_numbers.ensures ∙ c.if-not-all_numbers.false) ∙ ap (Points (length a.values.now / 3)) (sym (c.cuts_told.ensures ∙ ap cuts_told p.ensures.0 ∙ told-all)))
-    (p.ensures.1 ∙ sym (own_packed _ own _))) in
+    (encode_points_lem _ own _ _ valid fit (sym c.all_numbers.ensures ∙ c.if-not-all_numbers.false) ∙ ap (Points (length a.values.now / 3)) (sym (c.cuts_told.ensures ∙ ap cuts_told p.ensures.cuts ∙ told-all)))
+    (p.ensures.memory ∙ sym (own_packed _ own _))) in
     record { answer = done.0; memory = done.1 }

@@ -23,8 +23,8 @@ pub loop-i-preserved : goal.loop-i-preserved
 loop-i-preserved c = let l = c.loop-i in
     let t = c.eight_at-turn in (
       omega arith,
-      turn_filled c.args.rows c.args.codes.now l.i c.args.out.now l.out _ _ (omega (arith, c.requires.1)) t.ensures.0 l.invariant.1 c.store_eight.ensures,
-      omega (arith, l.invariant.2, t.ensures.1),
+      turn_filled c.args.rows c.args.codes.now l.i c.args.out.now l.out _ _ (omega (arith, c.requires.1)) t.ensures.numbers_value l.invariant.1 c.store_eight.ensures,
+      omega (arith, l.invariant.2, t.ensures.cuts_value),
     )
 
 pub overflow_add-cuts-in-loop-i-2 : goal.overflow_add-cuts-in-loop-i-2

@@ -1,6 +1,6 @@
 -- `group_encoding::encode::eight` meets its contract: each turn fills in one number, and counts one group's cuts. Assumes nothing.
 use mathlib.Core.Path.{◌≡◌}
-use Prim.Native.Nat.{◌+◌, ◌-◌}
+use Prim.Native.Nat.{◌+◌}
 use native.Mathlib.Omega.{arith}
 use Rattle.lists.proofs.Filled.{filled_all}
 use Rattle.group_encoding.proofs.Groups.{cuts_le}

@@ -1,7 +1,7 @@
 -- `group_encoding::encode::groups` meets its contract: each turn fills in eight groups, and then one, and counts their cuts. Assumes nothing.
 use mathlib.Core.Path.{◌≡◌, refl, ap, ◌∙◌}
 use mathlib.Core.List.{List}
-use Prim.Native.Nat.{ℕ, ◌+◌, ◌-◌, ◌*◌, ◌≤◌}
+use Prim.Native.Nat.{ℕ, ◌+◌, ◌*◌, ◌≤◌}
 use native.Mathlib.Omega.{arith}
 use lib.Dec.{lit<}
 use lib.ListN.{get_or}
@@ -24,7 +24,7 @@ overflow_add-all c =
     let more : let l = c.loop-i in
     l.all + c.eight-turn.result.cuts ≡ count (6 * (l.i + 8)) (counted_cut c.args.layout c.args.values.now) = let l = c.loop-i in
     let e = c.eight-turn in
-    ap (λ (k : ℕ). k + e.result.cuts) l.invariant.2 ∙ e.ensures.1 in
+    ap (λ (k : ℕ). k + e.result.cuts) l.invariant.2 ∙ e.ensures.cuts in
     let few : c.loop-i.all + c.eight-turn.result.cuts ≤ 12288 = let l = c.loop-i in
     omega (arith, more, cuts_le c.args.layout c.args.values.now (l.i + 8), c.requires.values_len.2) in
     omega (arith, few)
@@ -35,7 +35,7 @@ loop-i-preserved c =
     let more : let l = c.loop-i in
     l.all + c.eight-turn.result.cuts ≡ count (6 * (l.i + 8)) (counted_cut c.args.layout c.args.values.now) = let l = c.loop-i in
     let e = c.eight-turn in
-    ap (λ (k : ℕ). k + e.result.cuts) l.invariant.2 ∙ e.ensures.1 in
+    ap (λ (k : ℕ). k + e.result.cuts) l.invariant.2 ∙ e.ensures.cuts in
     let few : c.loop-i.all + c.eight-turn.result.cuts ≤ 12288 = let l = c.loop-i in
     omega (arith, more, cuts_le c.args.layout c.args.values.now (l.i + 8), c.requires.values_len.2) in
     let l = c.loop-i in
@@ -44,7 +44,7 @@ loop-i-preserved c =
       bytes_as _ _ refl c.store_counted.ensures.memory
           (counted_fills (group_byte codes) 4 (lit< tt) (lit< tt) c.args.out.now c.args.n (omega (arith, c.requires.values_len.2)) c.requires.values_len.1 e.result.numbers l.out l.i _ (omega arith) few
           (λ k h j q. quantized-bytes c.args.layout c.args.values.now c.requires.layout_value.0 (l.i + k) j _ (omega (arith, c.requires.values_len.0))
-          (ap (λ (v : List ℕ). get_or v k 0) e.ensures.0 ∙ get_or-tabulate 8 (λ k. group_number codes (l.i + k)) k 0 h) q) l.invariant.1),
+          (ap (λ (v : List ℕ). get_or v k 0) e.ensures.numbers ∙ get_or-tabulate 8 (λ k. group_number codes (l.i + k)) k 0 h) q) l.invariant.1),
       more,
     )
 
@@ -53,7 +53,7 @@ overflow_add-all-in-loop-i-2 c =
     let one_more : let l = c.loop-i-2 in
     l.all + c.joined-last.result.cuts ≡ count (6 * (l.i + 1)) (counted_cut c.args.layout c.args.values.now) = let l = c.loop-i-2 in
     let p = c.joined-last in
-    ap (λ (k : ℕ). k + p.result.cuts) l.invariant.3 ∙ p.ensures.1 in
+    ap (λ (k : ℕ). k + p.result.cuts) l.invariant.3 ∙ p.ensures.cuts in
     let l = c.loop-i-2 in
     omega (arith, one_more, cuts_le c.args.layout c.args.values.now (l.i + 1), c.requires.values_len.2)
 
@@ -63,14 +63,14 @@ loop-i-2-preserved c =
     let one_more : let l = c.loop-i-2 in
     l.all + c.joined-last.result.cuts ≡ count (6 * (l.i + 1)) (counted_cut c.args.layout c.args.values.now) = let l = c.loop-i-2 in
     let p = c.joined-last in
-    ap (λ (k : ℕ). k + p.result.cuts) l.invariant.3 ∙ p.ensures.1 in
+    ap (λ (k : ℕ). k + p.result.cuts) l.invariant.3 ∙ p.ensures.cuts in
     let l = c.loop-i-2 in
     let p = c.joined-last in (
       omega arith,
       l.invariant.1,
       bytes_as _ _ refl c.store_one.ensures.memory
           (one_fills (group_byte codes) 4 (lit< tt) (lit< tt) _ c.args.n (omega (arith, c.requires.values_len.2)) l.invariant.1 p.result.number l.out l.i (omega arith)
-          (λ j q. quantized-bytes c.args.layout c.args.values.now c.requires.layout_value.0 l.i j _ (omega (arith, c.requires.values_len.0)) p.ensures.0 q) l.invariant.2),
+          (λ j q. quantized-bytes c.args.layout c.args.values.now c.requires.layout_value.0 l.i j _ (omega (arith, c.requires.values_len.0)) p.ensures.number q) l.invariant.2),
       one_more,
     )
 

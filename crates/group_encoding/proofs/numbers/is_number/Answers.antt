@@ -2,6 +2,5 @@
 use Rattle.line_values.proofs.Encodes.{eq_self}
 use Rattle.group_encoding.proofs.numbers.is_number.Goals as goal
 
--- `group_encoding::numbers::is_number` meets its contract. Assumes nothing.
 pub returns : goal.returns
 returns c = eq_self c.args.value

@@ -1,7 +1,7 @@
 -- `point_encoding::all_numbers` meets its contract: what was passed, and what is left, decide together. Assumes nothing.
 use mathlib.Core.Path.{sym, ap, ◌∙◌}
 use mathlib.Core.Bool.{Bool, not, ◌&&◌}
-use Prim.Native.Nat.{◌+◌, ◌-◌}
+use Prim.Native.Nat.{◌+◌}
 use native.Mathlib.Omega.{arith}
 use lib.Ieee.{nan, is_nan}
 use lib.ListN.{drop, get_or}

@@ -1,5 +1,5 @@
 -- `point_encoding::encode::eight` meets its contract: each turn fills in one number, and counts one point's cuts. Assumes nothing.
-use Prim.Native.Nat.{◌+◌, ◌-◌}
+use Prim.Native.Nat.{◌+◌}
 use native.Mathlib.Omega.{arith}
 use mathlib.Core.Path.{◌≡◌}
 use Rattle.lists.proofs.Filled.{filled_all}

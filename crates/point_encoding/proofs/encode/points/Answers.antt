@@ -1,7 +1,7 @@
 -- `point_encoding::encode::points` meets its contract: each turn fills in eight points, and then one, and counts their cuts. Assumes nothing.
 use mathlib.Core.Path.{◌≡◌, refl, ap, ◌∙◌}
 use mathlib.Core.List.{List}
-use Prim.Native.Nat.{ℕ, ◌+◌, ◌-◌, ◌*◌, ◌≤◌}
+use Prim.Native.Nat.{ℕ, ◌+◌, ◌*◌, ◌≤◌}
 use native.Mathlib.Omega.{arith}
 use lib.ListN.{get_or}
 use Rattle.lists.specs.Lists.{count}
@@ -43,7 +43,7 @@ loop-i-preserved c =
       omega arith,
       bytes_as _ _ refl c.store_counted.ensures.memory
           (counted_fills _ _ facts.bytes_least facts.bytes_most c.args.out.now c.args.n c.requires.values_len.2 c.requires.values_len.1 e.result.numbers l.out l.i _ (omega arith) few
-          (λ k h j q. number_at c.args.layout codes (l.i + k) _ j (ap (λ (v : List ℕ). get_or v k 0) e.ensures.0 ∙ get_or-tabulate 8 (λ k. joined c.args.layout codes (l.i + k)) k 0 h) q) l.invariant.1),
+          (λ k h j q. number_at c.args.layout codes (l.i + k) _ j (ap (λ (v : List ℕ). get_or v k 0) e.ensures.numbers ∙ get_or-tabulate 8 (λ k. joined c.args.layout codes (l.i + k)) k 0 h) q) l.invariant.1),
       more,
       l.invariant.3,
     )
@@ -53,7 +53,7 @@ overflow_add-all-in-loop-i-2 c =
     let one_more : let l = c.loop-i-2 in
     l.all + c.joined-last.result.cuts ≡ count (3 * (l.i + 1)) (value_cut c.args.layout c.args.values.now) = let l = c.loop-i-2 in
     let p = c.joined-last in
-    ap (λ (k : ℕ). k + p.result.cuts) l.invariant.3 ∙ p.ensures.1 in
+    ap (λ (k : ℕ). k + p.result.cuts) l.invariant.3 ∙ p.ensures.cuts in
     let l = c.loop-i-2 in
     omega (arith, one_more, cuts_le c.args.layout c.args.values.now (l.i + 1), c.requires.values_len.2)
 
@@ -64,12 +64,12 @@ loop-i-2-preserved c =
     let one_more : let l = c.loop-i-2 in
     l.all + c.joined-last.result.cuts ≡ count (3 * (l.i + 1)) (value_cut c.args.layout c.args.values.now) = let l = c.loop-i-2 in
     let p = c.joined-last in
-    ap (λ (k : ℕ). k + p.result.cuts) l.invariant.3 ∙ p.ensures.1 in
+    ap (λ (k : ℕ). k + p.result.cuts) l.invariant.3 ∙ p.ensures.cuts in
     let l = c.loop-i-2 in
     let p = c.joined-last in (
       omega arith,
       l.invariant.1,
-      bytes_as _ _ refl c.store_one.ensures.memory (one_fills _ _ facts.bytes_least facts.bytes_most _ c.args.n c.requires.values_len.2 l.invariant.1 p.result.number l.out l.i (omega arith) (λ j q. number_at c.args.layout codes l.i _ j p.ensures.0 q) l.invariant.2),
+      bytes_as _ _ refl c.store_one.ensures.memory (one_fills _ _ facts.bytes_least facts.bytes_most _ c.args.n c.requires.values_len.2 l.invariant.1 p.result.number l.out l.i (omega arith) (λ j q. number_at c.args.layout codes l.i _ j p.ensures.number q) l.invariant.2),
       one_more,
       l.invariant.4,
     )
