@@ -11,10 +11,12 @@ library = target/staticlib/libimurraqi.a
 program = target/bin/stack_list
 # Where the binding's sources go, under PREFIX. Its build.rs looks for the library in ../../../lib from there.
 binding = share/imurraqi/rust
-sources := crates.txt $(shell find crates -name '*.rt' -o -name '*.antt')
+# What a proof reads. What is built of it lies in crates/NAME/out, copies of sources too.
+sources := crates.txt $(shell find crates/*/src crates/*/specs crates/*/proofs -name '*.rt' -o -name '*.antt')
 
 # The C interface by subject.
 subjects = c_values c_descriptors c_fields c_lines c_colors c_cards c_history c_pictures
+archives = $(foreach subject,$(subjects),crates/$(subject)/out/lib$(subject).a)
 
 # In a shell: PREFIX with its whole path, and the directory that is written to.
 places = set -e; prefix=$$(realpath -ms -- '$(PREFIX)'); to='$(DESTDIR)'$$prefix
@@ -24,14 +26,15 @@ all: $(library) $(program)
 # A static library of each subject, and their objects side by side in one. In each all but the functions for C are local, so
 # that no two objects share a name, and a program gets only the objects of the subjects that it uses.
 $(library): $(sources)
-	set -e; for subject in $(subjects); do rt staticlib $$subject; done
+	set -e; for subject in $(subjects); do (cd crates/$$subject && rt lib); done
+	mkdir -p $(@D)
 	rm -f $@
-	{ echo create $@; printf 'addlib target/staticlib/lib%s.a\n' $(subjects); echo save; echo end; } | ar -M
+	{ echo create $@; printf 'addlib %s\n' $(archives); echo save; echo end; } | ar -M
 
-# An unchanged program may be left as it is: its time then says that it was looked at.
+# rt builds a program only to run it: here on the stack that its crate has.
 $(program): $(sources)
-	rt check stack_list
-	touch -c $@
+	cd crates/stack_list && rt run <stdin >/dev/null
+	install -D crates/stack_list/out/stack_list $@
 
 install: all
 	$(places); \
