@@ -1,17 +1,12 @@
 -- The row of G' out of each range, by the values that it is worked out from. Assumes nothing.
 use mathlib.Core.Path.{◌≡◌, refl}
-use mathlib.Core.List.{[], ◌∷◌}
-use mathlib.Core.Logic.{inl, inr}
+use mathlib.Core.Logic.{◌⊎◌, inl, inr}
 use Prim.Native.Nat.{ℕ}
-use native.Mathlib.Omega.{arith}
-use denote.Enum.Declared.{tag_of}
-use types.Run.{OneOf}
 use Rattle.parameters.specs.declared.range.Range.{Range}
 use Rattle.parameters.specs.declared.range.Range.TheVariants.{Narrow, Full, LegacyFull}
 use Rattle.parameters.specs.declared.kind.Kind.TheVariants.{Brightness}
 use Rattle.parameters.specs.Parameters.{bits_of}
 use Rattle.parameters.proofs.Depths.{Steps}
-use Rattle.parameters.specs.contracts.range.Range.{the_type}
 use Rattle.scale.specs.declared.Scale.{Scale}
 use Rattle.scale.specs.Scale.{scale_of}
 use Rattle.color_numbers.specs.declared.green.Ratio.{Ratio}
@@ -25,12 +20,12 @@ use Rattle.color_rows.specs.declared.linear.Value.{Value}
 use Rattle.color_rows.specs.inner.Green.{narrow_green_value}
 use Rattle.color_rows.specs.inner.Rows.{coded_of, code_row, green_value, plain_green_row, green_row_from, green_row}
 
--- what the arm of both full ranges is told of the range: its number among the enum's variants
+-- what the arm of both full ranges is told of the range
 abbrev pub FullArm : Range → Type 0
-FullArm r = OneOf (1 ∷ 2 ∷ []) (tag_of the_type r)
+FullArm r = (r ≡ Full) ⊎ (r ≡ LegacyFull)
 
 not_narrow : {A : Type 0} → FullArm Narrow → A
-not_narrow h = elim h [ inl e ↦ absurd (omega arith) | inr e ↦ absurd (omega arith) ]
+not_narrow h = elim h [ inl e ↦ cc | inr e ↦ cc ]
 
 pub arm_spread : (r : Range) → FullArm r → (n : ℕ) → Steps n → FullSpread (spread_of r n)
 arm_spread Narrow h n s = not_narrow h

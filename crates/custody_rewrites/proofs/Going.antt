@@ -5,7 +5,6 @@ use Prim.Native.Nat.{ℕ, suc, ◌+◌, ◌≤◌, ◌<◌}
 use native.Mathlib.Nat.{zero-add}
 use native.Mathlib.Numerals.{add-one}
 use native.Mathlib.Omega.{arith}
-use borrow.Author.Rules.{zero≤}
 use borrow.Rule.Slice.PartMut.{put_mid, same_len_mid}
 use lib.ListN.{length, length-drop, get_or, set, take, drop, length-set, length-append, drop_of_length-le}
 use lib.Seq.{take_all, drop-cons, take-suc-set, append_snoc, take_at, drop_at, length-take-le}
@@ -37,7 +36,7 @@ going_start editions lengths outputs card answers h s =
       card-long = h;
       outputs-long = refl;
       answers-long = refl;
-      done = zero≤;
+      done = omega arith;
       bytes = zero-add (sum lengths) ∙ s;
       card_is = refl;
       outputs_are = refl;

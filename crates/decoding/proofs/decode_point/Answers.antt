@@ -14,7 +14,7 @@ returns-in-Points c =
     let own : grouped c.args.layout ≡ false = sym c.grouped.ensures ∙ c.if-grouped.false in
     let d = c.decode_points in
     let a = c.args in
-    point_decoded a.layout own a.bytes.now _ _ _ (sym c.in-Points.is ∙ d.ensures.0 ∙ pass _ own refl) (d.ensures.1 ∙ pass _ own refl)
+    point_decoded a.layout own a.bytes.now _ _ _ (sym c.in-Points.is ∙ d.ensures.answer ∙ pass _ own refl) (d.ensures.memory ∙ pass _ own refl)
 
 pub returns-in-Refused : goal.returns-in-Refused
 returns-in-Refused c =

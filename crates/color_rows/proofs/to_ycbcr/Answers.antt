@@ -1,0 +1,10 @@
+-- `color_rows::to_ycbcr` meets its contract. Assumes nothing.
+use mathlib.Core.Path.{sym, ◌∙◌, subst}
+use Rattle.color_numbers.specs.inner.Sizes.{SmallNumbers}
+use Rattle.color_numbers.proofs.Known.{numbers_small, numbers_told}
+use Rattle.color_rows.proofs.to_ycbcr.Goals as goal
+
+pub rows-requires : goal.rows-requires
+rows-requires c = let a = c.args in
+    let e = numbers_told a.primaries a.depth a.range_in a.range_out (sym c.numbers_of.ensures ∙ c.in-Known.is) in
+    subst SmallNumbers (sym e.1) (numbers_small a.primaries a.depth a.range_in a.range_out e.0)
