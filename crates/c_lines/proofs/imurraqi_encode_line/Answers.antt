@@ -7,6 +7,8 @@ pub returns : goal.returns
 returns c =
     let line = c.encode_line in
     let number = c.clamped_number in
-    let done =
-    rw (← c.layout_of.ensures) (handed_clamped _ (encode_small _ _ _) line.ensures.answer number.result number.ensures.answer, (line.ensures.memory, handed_cuts _ line.ensures.answer number.ensures.memory)) in
-    record { answer = done.0; memory = done.1; cuts = done.2 }
+    record {
+      answer = rw (← c.layout_of.ensures) (handed_clamped _ (encode_small _ _ _) line.ensures.answer number.result number.ensures.answer);
+      memory = rw (← c.layout_of.ensures) (line.ensures.memory);
+      cuts = rw (← c.layout_of.ensures) (handed_cuts _ line.ensures.answer number.ensures.memory);
+    }
