@@ -1,7 +1,7 @@
 -- No whole number lies just above or just below span * value + base + 1/2 + 4096: either it has at most 40 binary digits below the point, or the value is so near to 0
 -- that it lies about half way between two whole numbers. Assumes nothing.
 use mathlib.Core.Path.{◌≡◌, sym, ap, ◌∙◌}
-use Prim.Native.Nat.{ℕ, suc, ◌+◌, ◌-◌, ◌*◌, ◌%◌, ◌^◌, ◌≤◌, ◌<◌}
+use Prim.Native.Nat.{ℕ, suc, ◌+◌, ◌*◌, ◌%◌, ◌^◌, ◌≤◌, ◌<◌}
 use native.Mathlib.Nat.{le_trans, le_of_eq, mul_assoc, mul_left_comm, mul-one, one-mul, add-mul, mul-le-mul, mul-le-mul_right}
 use mathlib.Core.Logic.{◌⊎◌, inl, inr}
 use native.Mathlib.Omega.{arith}

@@ -6,7 +6,7 @@ use native.Mathlib.Nat.{one-mul, zero-mul, add-mul, mul_right_comm, mul-le-mul_r
 use native.Mathlib.Omega.{arith}
 use borrow.Author.Tests.{ltb-true, ltb-false, lt-ltb, le-ltb, leb-true, leb-false, le-leb, lt-leb}
 use lib.Dec.{ltb, leb}
-use lib.IntN.{ℤ, pos, negsuc, neg_ℤ, ◌+ℤ◌, ◌-ℤ◌}
+use lib.IntN.{ℤ, pos, neg_ℤ, ◌+ℤ◌, ◌-ℤ◌}
 use Rattle.fractions.specs.Fraction.{◌over◌, quotient, half_up, half_away, is_cut}
 use Rattle.fractions.proofs.Integers.{minus_cases, times, plus_pos}
 

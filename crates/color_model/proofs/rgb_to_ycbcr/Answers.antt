@@ -12,17 +12,17 @@ use Rattle.color_model.proofs.rgb_to_ycbcr.Goals as goal
 pub returns-in-Known : goal.returns-in-Known
 returns-in-Known c =
     let a = c.args in
-    let k = ycbcr_conversion a.primaries a.depth a.range-in a.range-out in
-    let e = conversion_told (convertible a.primaries a.depth a.range-in a.range-out) k (sym c.to_ycbcr.ensures ∙ c.in-Known.is) in
+    let k = ycbcr_conversion a.primaries a.depth a.range_in a.range_out in
+    let e = conversion_told (convertible a.primaries a.depth a.range_in a.range_out) k (sym c.to_ycbcr.ensures ∙ c.in-Known.is) in
     let done =
-    entry (to_ycbcr a.primaries a.depth a.range-in a.range-out) a.primaries a.depth a.range-in a.range-out a.codes.now k.rows e.0
-    (to_ycbcr_exact a.primaries a.depth a.range-in a.range-out e.0) a.out.now e.1 c.convert.ensures in
+    entry (to_ycbcr a.primaries a.depth a.range_in a.range_out) a.primaries a.depth a.range_in a.range_out a.codes.now k.rows e.0
+    (to_ycbcr_exact a.primaries a.depth a.range_in a.range_out e.0) a.out.now e.1 (c.convert.ensures.answer, c.convert.ensures.memory) in
     record { answer = done.0; memory = done.1 }
 
 pub returns-in-Unknown : goal.returns-in-Unknown
 returns-in-Unknown c =
     let a = c.args in
     let done =
-    refuses_clamped _ _ (answer-outside (to_ycbcr a.primaries a.depth a.range-in a.range-out) a.primaries a.depth a.range-in a.range-out a.codes.now (length a.out.now)
-    (conversion_unknown (convertible a.primaries a.depth a.range-in a.range-out) (ycbcr_conversion a.primaries a.depth a.range-in a.range-out) (sym c.to_ycbcr.ensures ∙ c.in-Unknown.is))) in
+    refuses_clamped _ _ (answer-outside (to_ycbcr a.primaries a.depth a.range_in a.range_out) a.primaries a.depth a.range_in a.range_out a.codes.now (length a.out.now)
+    (conversion_unknown (convertible a.primaries a.depth a.range_in a.range_out) (ycbcr_conversion a.primaries a.depth a.range_in a.range_out) (sym c.to_ycbcr.ensures ∙ c.in-Unknown.is))) in
     record { answer = done.0; memory = done.1 }

@@ -1,6 +1,5 @@
 -- `floats::in_units` meets its contract: an f64 holds the number. Assumes nothing.
 use mathlib.Core.Path.{ap}
-use Prim.Native.Nat.{◌^◌}
 use native.Mathlib.Omega.{arith}
 use lib.IntN.{ℤ}
 use lib.Ieee.{binary64, mul, of_int, of_bits}
