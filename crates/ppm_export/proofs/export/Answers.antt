@@ -19,7 +19,7 @@ returns-then-not-fits c =
     let read-facts : let a = c.args in read_for_export a.card.now a.edition ≡ Shown c.in-Shown.facts = sym c.read.ensures ∙ c.in-Shown.is in
     let a = c.args in
     let done =
-    unfit a.card.now a.edition a.packed.now a.out.now c.in-Shown.facts read-facts (sym c.fits2.ensures ∙ c.if-not-fits.true) in
+    unfit a.card.now a.edition a.packed.now a.out.now c.in-Shown.facts read-facts (sym c.fits.ensures ∙ c.if-not-fits.true) in
     record { answer = done.0; memory = done.1 }
 
 pub put-requires : goal.put-requires
@@ -27,14 +27,14 @@ put-requires c =
     let read-facts : let a = c.args in read_for_export a.card.now a.edition ≡ Shown c.in-Shown.facts = sym c.read.ensures ∙ c.in-Shown.is in
     let known : Known c.in-Shown.facts = let a = c.args in
     shown-known a.card.now a.edition c.in-Shown.facts (was_read a.card.now a.edition c.in-Shown.facts read-facts) in
-    (known, sym c.fits2.ensures ∙ c.if-not-fits.false)
+    (known, sym c.fits.ensures ∙ c.if-not-fits.false)
 
 pub returns-else-not-fits : goal.returns-else-not-fits
 returns-else-not-fits c =
     let read-facts : let a = c.args in read_for_export a.card.now a.edition ≡ Shown c.in-Shown.facts = sym c.read.ensures ∙ c.in-Shown.is in
     let a = c.args in
     let done =
-    points a.card.now a.edition a.packed.now a.out.now c.in-Shown.facts read-facts (sym c.fits2.ensures ∙ c.if-not-fits.false) c.put.ensures in
+    points a.card.now a.edition a.packed.now a.out.now c.in-Shown.facts read-facts (sym c.fits.ensures ∙ c.if-not-fits.false) c.put.ensures in
     record { answer = done.0; memory = done.1 }
 
 pub returns-in-Refused : goal.returns-in-Refused

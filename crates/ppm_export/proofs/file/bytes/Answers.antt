@@ -19,9 +19,7 @@ overflow_add-result c =
     omega (arith, head-is, points-are, head_short c.args.facts c.requires, bytes_small c.args.facts c.requires)
 
 pub returns : goal.returns
-unfolding header_of_facts
-
-unfolding picture_bytes
+unfolding header_of_facts picture_bytes
 returns c =
     let head-is : c.length-header.result ≡ length (header_of_facts c.args.facts) = c.length-header.ensures.answer ∙ ap (λ (t : ℕ). length (header_text c.args.facts.width c.args.facts.height t)) (c.top.ensures ∙ ap top_of (bits_of_lem c.args.facts c.requires c.depth_of-depth.ensures)) in
     let code_is : c.code_bytes.result ≡ code_bytes c.args.facts.layout.depth = c.code_bytes.ensures ∙ ap code_bytes (bits_of_lem c.args.facts c.requires c.depth_of-depth.ensures) in

@@ -16,9 +16,7 @@ use Rattle.ppm_export.proofs.Pictures.{bits_of_lem, fit_say, pixels_fit_lem, res
 use Rattle.ppm_export.proofs.file.put.Goals as goal
 
 pub returns : goal.returns
-unfolding header_of_facts
-
-unfolding picture_of
+unfolding header_of_facts picture_of
 returns c =
     let stored : let a = c.args in Put (header_of_facts a.facts) 0 a.out.now c.put-at.new.out c.put-at.result = put_as (ap (header_text c.args.facts.width c.args.facts.height) (c.top.ensures ∙ ap top_of (bits_of_lem c.args.facts c.requires.0 c.depth_of-depth.ensures))) c.put-at.ensures in
     let sizes : let a = c.args in
