@@ -1,6 +1,6 @@
 -- The claims of specs/Claims.antt. Assumes nothing.
 use mathlib.Core.Path.{◌≡◌, refl, ap, ap₂, ◌∙◌}
-use mathlib.Core.Bool.{Bool, true, false, not, cond, ◌&&◌}
+use mathlib.Core.Bool.{Bool, true, not, ◌&&◌}
 use mathlib.Core.List.{List}
 use Prim.Native.Nat.{ℕ, zero, suc, ◌+◌, ◌*◌, ◌/◌, ◌%◌, ◌≤◌}
 use native.Mathlib.Omega.{arith}
@@ -11,7 +11,6 @@ use lib.ListN.{length, get_or}
 use Rattle.lists.specs.Lists.{every, count}
 use Rattle.lists.proofs.Tests.{and_left, and_right, and3, pass}
 use Rattle.lists.proofs.Counts.{count_same}
-use Rattle.refusal.specs.Refusal.{outside, wrong_line_or_output, code_too_high}
 use Rattle.fractions.specs.declared.Clamped.{Clamped}
 use Rattle.fractions.specs.Fraction.{Fraction, is_cut, clamped}
 use Rattle.parameters.specs.declared.range.Range.{Range}
@@ -24,7 +23,7 @@ use Rattle.scale.proofs.Scales.{ends}
 use Rattle.quantization.specs.Code.{code_of_value}
 use Rattle.quantization_laws.specs.Printed.{printed_unclamped, printed_low, printed_high}
 use Rattle.quantization_laws.proofs.Printed.{Kept, unclamped_printed, ends_printed, value_kept}
-use Rattle.line.specs.declared.ClampedAnswer.TheVariants.{Points, Refused}
+use Rattle.line.specs.declared.ClampedAnswer.TheVariants.{Points}
 use Rattle.line.specs.Line.{codes_within}
 use Rattle.line.specs.Answer.{most_points}
 use Rattle.line.proofs.Answers.{fit}

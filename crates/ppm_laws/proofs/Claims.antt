@@ -39,7 +39,7 @@ use Rattle.ppm_raster.specs.Raster.{code_bytes}
 use Rattle.ppm_export.specs.Export.{points_of, header_of_facts, picture_of, picture_bytes, read_for_export, export_fits, export_shown, export_answer, export_output, length_shown, export_length, picture_shown}
 use Rattle.ppm_export.specs.inner.Picture.{Known}
 use Rattle.ppm_export.proofs.Pictures.{shown-known, fit_say}
-use Rattle.ppm_export.proofs.Answers.{not_read, range_3, not_open_lem, is_open_lem as is_read, was_read, points}
+use Rattle.ppm_export.proofs.Answers.{not_read, range_3, not_open_lem, is_open as is_read, was_read, points}
 use Rattle.ppm_card.specs.Card.{depth_of_top, bytes_of_top, import_layout, import_facts, given_known, import_fits, length_read, import_length}
 use Rattle.ppm_import.specs.Import.{import_edition, codes_after, import_answer, card_read, import_card, packed_read, import_packed}
 use Rattle.ppm_import.proofs.Layouts.{writable}

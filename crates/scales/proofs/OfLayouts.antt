@@ -1,26 +1,20 @@
 -- The scales of channels that are known, and those of a layout. Assumes nothing.
 use mathlib.Core.Path.{◌≡◌, refl, sym, ap, subst}
-use mathlib.Core.Bool.{Bool, true, false, cond, ◌&&◌, true≢false}
-use Prim.Native.Nat.{ℕ, ◌+◌, ◌-◌, ◌*◌, ◌/◌, ◌^◌, ◌≤◌}
+use mathlib.Core.Bool.{Bool, true, false, ◌&&◌}
+use Prim.Native.Nat.{ℕ}
 use native.Mathlib.Omega.{arith}
-use borrow.Author.Tests.{eqb-true}
-use lib.Dec.{eqb, lit≤}
 use Rattle.layout.specs.declared.Layout.{Layout}
 use Rattle.parameters.specs.declared.range.Range.{Range}
-use Rattle.parameters.specs.declared.range.Range.TheVariants.{Narrow, Full, LegacyFull}
-use Rattle.parameters.specs.declared.kind.Kind.{Kind}
-use Rattle.parameters.specs.declared.kind.Kind.TheVariants.{Brightness, Difference}
-use Rattle.parameters.specs.Parameters.{model_known, range_known, range_of, depth_known, channel_known, kind_of, step_of, top_of}
+use Rattle.parameters.specs.Parameters.{model_known, range_known, range_of, depth_known, channel_known, kind_of}
 use Rattle.layout.specs.Layout.{valid_layout}
 use Rattle.lists.proofs.Tests.{and_left, and_right}
 use Rattle.layout.proofs.Facts.{valid_says}
-use Rattle.parameters.proofs.Depths.{Steps, steps, known_between}
+use Rattle.parameters.proofs.Depths.{steps, known_between}
 use Rattle.scale.specs.declared.Scale.{Scale}
-use Rattle.scale.specs.declared.Rounding.TheVariants.{HalfUp, HalfAway}
 use Rattle.scales.specs.declared.channel.ChannelScale.TheVariants.{Known as AsScale}
 use Rattle.scales.specs.declared.channels.Scales.{Scales}
 use Rattle.scales.specs.declared.channels.LayoutScales.TheVariants.{Known, Unknown}
-use Rattle.scale.specs.Scale.{low_end, high_end, scale_of}
+use Rattle.scale.specs.Scale.{scale_of}
 use Rattle.scales.specs.Channel.{scale_at, known_scale}
 use Rattle.scales.specs.Scales.{scales_of, known_scales}
 use Rattle.float_scale.specs.inner.Floats.{Fine}

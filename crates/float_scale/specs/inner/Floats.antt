@@ -1,5 +1,5 @@
 -- The code of a number as the code works it out, in f64. A reader need not believe it: crates/quantization/proofs/Codes.antt shows that of an f32, on a scale of the paper, it is `code_of`. Assumes nothing.
-use Rattle.std.specs.Prelude.{ℕ, ◌+◌, ◌*◌, ◌≤◌, ◌<◌, pos, negsuc, Float, Bool, true, false, ◌≡◌}
+use Rattle.std.specs.Prelude.{◌+◌, ◌*◌, ◌≤◌, ◌<◌, pos, negsuc, Float, Bool, true, false, ◌≡◌}
 use Rattle.std.specs.Float.{fin, binary64}
 use Rattle.std.specs.Float.Ieee.{mul, add, of_int}
 use Rattle.fractions.specs.declared.Clamped.{Clamped}

@@ -1,6 +1,5 @@
 -- `group_packing::all_within` meets its contract: all groups passed fit, and one that does not decides. Assumes nothing.
 use mathlib.Core.Path.{sym, ◌∙◌}
-use Prim.Native.Nat.{◌-◌}
 use native.Mathlib.Omega.{arith}
 use Rattle.group_packing.proofs.Small.{within_if_small, too_high}
 use Rattle.group_packing.proofs.all_within.Goals as goal

@@ -1,5 +1,4 @@
 -- `group_packing::groups` meets its contract: each turn fills in one group's bytes. Assumes nothing.
-use Prim.Native.Nat.{◌-◌}
 use native.Mathlib.Omega.{arith}
 use Rattle.group_packing.proofs.Bytes.{bytes_more, bytes-all}
 use Rattle.group_packing.proofs.groups.Goals as goal

@@ -1,5 +1,4 @@
 -- `group_unpacking::groups` meets its contract: each turn fills in one group's codes. Assumes nothing.
-use Prim.Native.Nat.{◌-◌}
 use native.Mathlib.Omega.{arith}
 use Rattle.group_unpacking.proofs.Codes.{codes_more, codes_all}
 use Rattle.group_unpacking.proofs.groups.Goals as goal

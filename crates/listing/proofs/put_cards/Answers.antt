@@ -1,5 +1,4 @@
 -- `listing::put_cards` meets its contract: the invariant is what was stored so far. Assumes nothing.
-use Prim.Native.Nat.{◌-◌}
 use mathlib.Core.Path.{refl, ◌∙◌}
 use native.Mathlib.Omega.{arith}
 use Rattle.listing.proofs.Answers.{cards_none, cards_next, part_is}

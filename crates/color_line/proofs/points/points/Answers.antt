@@ -1,5 +1,5 @@
 -- `color_line::points` meets its contract: each turn fills in eight points and adds their cuts, and then one's. Assumes nothing.
-use Prim.Native.Nat.{◌+◌, ◌*◌, ◌-◌}
+use Prim.Native.Nat.{◌+◌, ◌*◌}
 use native.Mathlib.Omega.{arith}
 use mathlib.Core.Path.{refl, ap, ◌∙◌}
 use Rattle.lists.specs.Lists.{count}

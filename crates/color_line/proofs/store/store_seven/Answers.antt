@@ -1,5 +1,4 @@
 -- `color_line::store_seven` meets its contract: each turn stores one number. Assumes nothing.
-use Prim.Native.Nat.{◌-◌}
 use native.Mathlib.Omega.{arith}
 use mathlib.Core.Path.{refl}
 use Rattle.color_line.specs.inner.Rows.{stored_of}

@@ -1,5 +1,4 @@
 -- `group_decoding::groups::all` meets its contract: each turn fills in one group's values. Assumes nothing.
-use Prim.Native.Nat.{◌-◌}
 use native.Mathlib.Omega.{arith}
 use Rattle.group_decoding.proofs.Values.{values_more, values-all}
 use Rattle.group_decoding.proofs.groups.all.Goals as goal

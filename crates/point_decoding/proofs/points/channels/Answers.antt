@@ -1,6 +1,5 @@
 -- `point_decoding::channels` meets its contract: each turn stores one channel. Assumes nothing.
 use mathlib.Core.Path.{◌∙◌}
-use Prim.Native.Nat.{◌-◌}
 use native.Mathlib.Omega.{arith}
 use lib.Ieee.{nan}
 use Rattle.point_decoding.specs.inner.Points.{point_value}

@@ -1,5 +1,4 @@
 -- `point_decoding::points` meets its contract: each turn fills in one point's values. Assumes nothing.
-use Prim.Native.Nat.{◌-◌}
 use native.Mathlib.Omega.{arith}
 use Rattle.lists.proofs.Bytes.{are_bytes_lem}
 use Rattle.field.proofs.Line.{next_point}

@@ -1,5 +1,5 @@
 -- `point_packing::pack::points` meets its contract: each turn fills in two points' bytes, and then one's. Assumes nothing.
-use Prim.Native.Nat.{◌+◌, ◌*◌, ◌-◌}
+use Prim.Native.Nat.{◌+◌, ◌*◌}
 use native.Mathlib.Omega.{arith}
 use Rattle.lists.proofs.Filled.{Filled}
 use Rattle.layout.proofs.Facts.{Points as PointFacts, points_say}

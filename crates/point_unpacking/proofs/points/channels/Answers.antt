@@ -1,6 +1,5 @@
 -- `point_unpacking::channels` meets its contract: each turn stores one channel. Assumes nothing.
 use mathlib.Core.Path.{◌∙◌}
-use Prim.Native.Nat.{◌-◌}
 use native.Mathlib.Omega.{arith}
 use Rattle.line.specs.Line.{point_code}
 use Rattle.line.proofs.Channels.{channels_none, channels_more, channels_all}

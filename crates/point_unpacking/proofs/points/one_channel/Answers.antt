@@ -1,6 +1,5 @@
 -- `point_unpacking::one_channel` meets its contract: each turn stores one code. Assumes nothing.
 use mathlib.Core.Path.{refl, ◌∙◌}
-use Prim.Native.Nat.{◌-◌}
 use native.Mathlib.Omega.{arith}
 use Rattle.lists.proofs.Bytes.{are_bytes_lem}
 use Rattle.layout.proofs.Facts.{points_say}

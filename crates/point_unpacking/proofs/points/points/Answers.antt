@@ -1,5 +1,4 @@
 -- `point_unpacking::points` meets its contract: each turn fills in one point's codes. Assumes nothing.
-use Prim.Native.Nat.{◌-◌}
 use native.Mathlib.Omega.{arith}
 use Rattle.lists.proofs.Bytes.{are_bytes_lem}
 use Rattle.field.proofs.Line.{next_point}

@@ -1,6 +1,5 @@
 -- `ppm_codes::take::all_within` meets its contract: what is left of the codes decides. Assumes nothing.
 use mathlib.Core.Path.{◌∙◌}
-use Prim.Native.Nat.{◌-◌}
 use native.Mathlib.Omega.{arith}
 use Rattle.ppm_codes.proofs.Codes.{scan_next, scan_end, take_double}
 use Rattle.ppm_codes.proofs.take.all_within.Goals as goal

@@ -1,6 +1,5 @@
 -- `ppm_header::scan::begins_with` meets its contract: what is left of both texts decides. Assumes nothing.
 use mathlib.Core.Path.{sym, ◌∙◌}
-use Prim.Native.Nat.{◌-◌}
 use native.Mathlib.Omega.{arith}
 use Rattle.ppm_header.proofs.Fronts.{begins_next, begins_end, begins_short}
 use Rattle.ppm_header.proofs.scan.begins_with.Goals as goal

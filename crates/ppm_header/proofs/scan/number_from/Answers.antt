@@ -1,6 +1,5 @@
 -- `ppm_header::scan::number_from` meets its contract: what is left of the text decides. Assumes nothing.
 use mathlib.Core.Path.{sym, ◌∙◌}
-use Prim.Native.Nat.{◌-◌}
 use native.Mathlib.Omega.{arith}
 use Rattle.ppm_header.proofs.Numbers.{number_next, number_stop, number-all, digits_next}
 use Rattle.ppm_header.proofs.scan.number_from.Goals as goal

@@ -1,5 +1,4 @@
 -- `ppm_raster::store::single` meets its contract: each turn fills in one code. Assumes nothing.
-use Prim.Native.Nat.{◌-◌}
 use mathlib.Core.Path.{◌∙◌}
 use native.Mathlib.Omega.{arith}
 use borrow.Author.Tests.{eq-eqb, ne_eqb}
