@@ -35,12 +35,10 @@ use Rattle.ppm_pixels.proofs.Outputs.{points-bytes}
 use Rattle.ppm_export.specs.Export.{points_of, header_of_facts, picture_of}
 use Rattle.ppm_export.specs.inner.Picture.{Known, units_of}
 use Rattle.ppm_export.proofs.Pictures.{says, whole_units}
-use Rattle.ppm_export.proofs.Answers.{points}
 use Rattle.ppm_card.specs.Card.{depth_of_top, import_layout}
 use Rattle.ppm_card.proofs.Depths.{depth_back}
 use Rattle.ppm_import.specs.Import.{codes_after}
 use Rattle.ppm_import.proofs.Layouts.{layout_points, layout_valid}
-use Rattle.ppm_laws.proofs.Exported.{exported}
 
 -- the largest code of a depth is one of a header's
 top_known_lem : (d : Depth) → top_known (top_of (bits_of d)) ≡ true
