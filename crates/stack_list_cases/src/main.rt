@@ -5,9 +5,17 @@
 use std::fs::File;
 use std::{env, io};
 
+// What was printed, or not: the program goes on where that can't be.
+fn printed(outcome: io::Result<()>) {
+    match outcome {
+        Ok(()) => (),
+        Err(_) => (),
+    }
+}
+
 // Lists the stack of one file under its name, or says why the file can't be opened.
-fn list_file(rt: &HostRuntime, name: &str) -> io::Result<()> {
-    println!(rt; "{name}")?;
+fn list_file(rt: &HostRuntime, name: &str) {
+    printed(println!(rt; "{name}"));
     match File::open(rt, name) {
         Ok(mut file) => {
             let mut buffer = [0u8; listing_program::MOST_READ];
@@ -19,15 +27,18 @@ fn list_file(rt: &HostRuntime, name: &str) -> io::Result<()> {
                 &mut buffer,
                 &mut text,
             );
-            Ok(())
         }
-        Err(error) => eprintln!(rt; "{name}: {error}"),
+        Err(error) => printed(eprintln!(rt; "{name}: {error}")),
     }
 }
 
-fn main(rt: HostRuntime) -> io::Result<()> {
-    for name in env::args(&rt)?.skip(1) {
-        list_file(&rt, &name)?;
+fn main(rt: HostRuntime) {
+    match env::args(&rt) {
+        Ok(names) => {
+            for name in names.skip(1) {
+                list_file(&rt, &name);
+            }
+        }
+        Err(error) => printed(eprintln!(rt; "a file's name: {error}")),
     }
-    Ok(())
 }
