@@ -10,9 +10,7 @@ ghost use Rattle.c_types.specs.Layouts.{facts_of};
 ghost use Rattle.c_types.specs.Numbers.{written_number};
 ghost use Rattle.c_cards.specs.Numbers.{shown_number, shown_layout, shown_facts, found_number};
 
-use c_types::{bytes_of, facts_of, refused};
-use card::{CardReading, Found};
-use refusal::Written;
+use c_types::{bytes_of, facts_of, refused, written_number};
 
 // What a card shows at an edition. Answers 0.
 #[unsafe(no_mangle)]
@@ -26,19 +24,18 @@ pub extern "C" fn imurraqi_card_read(
     ensures layout { layout.new ≡ shown_layout (read_card card.now edition) layout.old }
     ensures facts { facts.new ≡ shown_facts (read_card card.now edition) facts.old }
 {
-    match card::read(card, edition) {
-        CardReading::Shown(shown) => {
-            *layout = bytes_of(shown.layout);
-            *facts = [
-                shown.width as u64,
-                shown.height as u64,
-                shown.item,
-                shown.access as u64,
-            ];
-            0
-        }
-        CardReading::Refused(number) => refused(number),
-    }
+    let shown = match card::read(card, edition) {
+        Ok(shown) => shown,
+        Err(refusal) => return refused(refusal),
+    };
+    *layout = bytes_of(shown.layout);
+    *facts = [
+        shown.width as u64,
+        shown.height as u64,
+        shown.item,
+        shown.access as u64,
+    ];
+    0
 }
 
 // Writes the card of a layout, a size, an item and an access at an edition. Answers 0.
@@ -56,10 +53,7 @@ pub extern "C" fn imurraqi_card_write(
     ensures memory { out.new ≡ write_output edition (facts_of layout.now width height item access) out.old }
 {
     let facts = facts_of(layout, width, height, item, access);
-    match card::write(edition, facts, out) {
-        Written::Done => 0,
-        Written::Refused(number) => refused(number),
-    }
+    written_number(card::write(edition, facts, out))
 }
 
 // Rewrites a card at an edition into another place. Answers 0.
@@ -68,10 +62,7 @@ pub extern "C" fn imurraqi_card_rewrite(card: &[u8], edition: u8, out: &mut [u8]
     ensures answer { result ≡ written_number (rewrite_answer card.now edition (length out.old)) }
     ensures memory { out.new ≡ rewrite_output card.now edition out.old }
 {
-    match card::rewrite(card, edition, out) {
-        Written::Done => 0,
-        Written::Refused(number) => refused(number),
-    }
+    written_number(card::rewrite(card, edition, out))
 }
 
 // The index of the first card that the edition reads and that has the number.
@@ -80,7 +71,7 @@ pub extern "C" fn imurraqi_stack_find(stack: &[u8], edition: u8, item: u64) -> i
     ensures { result ≡ found_number (located stack.now edition item) }
 {
     match card::locate(stack, edition, item) {
-        Found::At(index) => index as i64,
-        Found::Refused(number) => refused(number),
+        Ok(index) => index as i64,
+        Err(refusal) => refused(refusal),
     }
 }

@@ -8,9 +8,7 @@ ghost use Rattle.c_types.specs.Layouts.{layout_of};
 ghost use Rattle.c_types.specs.Numbers.{written_number};
 ghost use Rattle.c_descriptors.specs.Numbers.{read_number, read_layout};
 
-use c_types::{bytes_of, layout_of, refused};
-use descriptor::DescriptorReading;
-use refusal::Written;
+use c_types::{bytes_of, layout_of, refused, written_number};
 
 // The layout that a descriptor tells. Answers 0.
 #[unsafe(no_mangle)]
@@ -19,11 +17,11 @@ pub extern "C" fn imurraqi_descriptor_read(bytes: &[u8], layout: &mut [u8; 9]) -
     ensures memory { layout.new ≡ read_layout (read_descriptor bytes.now) layout.old }
 {
     match descriptor::read(bytes) {
-        DescriptorReading::Accepted(accepted) => {
+        Ok(accepted) => {
             *layout = bytes_of(accepted);
             0
         }
-        DescriptorReading::Refused(number) => refused(number),
+        Err(refusal) => refused(refusal),
     }
 }
 
@@ -33,8 +31,5 @@ pub extern "C" fn imurraqi_descriptor_write(layout: &[u8; 9], out: &mut [u8]) ->
     ensures answer { result ≡ written_number (write_answer (layout_of layout.now) (length out.old)) }
     ensures memory { out.new ≡ write_output (layout_of layout.now) out.old }
 {
-    match descriptor::write(layout_of(layout), out) {
-        Written::Done => 0,
-        Written::Refused(number) => refused(number),
-    }
+    written_number(descriptor::write(layout_of(layout), out))
 }

@@ -9,14 +9,14 @@ use Rattle.parameters.specs.Parameters.{channel_known}
 use Rattle.layout.specs.Layout.{valid_points}
 use Rattle.layout.proofs.Facts.{points_say}
 use Rattle.field.specs.declared.field.Field.{Field}
-use Rattle.field.specs.declared.FieldBytes.{FieldBytes}
-use Rattle.field.specs.declared.FieldBytes.TheVariants.{Held, Refused}
 use Rattle.field.specs.Answer.{field_known, bytes_answer}
+use Rattle.std.specs.Prelude.{Result, Ok, Err}
+use Rattle.refusal.specs.declared.Refusal.{Refusal}
 use Rattle.field.proofs.Facts.{placed}
 
-abbrev Small : FieldBytes → Type 0
-Small (Held f) = (f.first ≤ 8) × (f.count ≤ 8)
-Small (Refused k) = Unit
+abbrev Small : Result Field Refusal → Type 0
+Small (Ok f) = (f.first ≤ 8) × (f.count ≤ 8)
+Small (Err k) = Unit
 
 small : (l : Layout) (channel : ℕ) → Small (bytes_answer l channel)
 unfolding bytes_answer
@@ -30,5 +30,5 @@ small l channel = go (field_known l channel) refl
         let v = points_say l ok in
         subst Small (sym (pass _ (ap not e) refl)) (omega (arith, p.inside, v.bytes_most), omega (arith, p.inside, v.bytes_most))
 
-pub held_small : (l : Layout) (channel : ℕ) (f : Field) → bytes_answer l channel ≡ Held f → (f.first ≤ 8) × (f.count ≤ 8)
+pub held_small : (l : Layout) (channel : ℕ) (f : Field) → bytes_answer l channel ≡ Ok f → (f.first ≤ 8) × (f.count ≤ 8)
 held_small l channel f e = subst Small e (small l channel)

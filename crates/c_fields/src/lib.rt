@@ -7,7 +7,6 @@ ghost use Rattle.c_types.specs.Layouts.{layout_of};
 ghost use Rattle.c_fields.specs.Numbers.{code_number, count_number, first_after};
 
 use c_types::{layout_of, refused};
-use field::{FieldBytes, FieldCode};
 
 // The code of a channel, in just the bytes that hold its field.
 #[unsafe(no_mangle)]
@@ -15,8 +14,8 @@ pub extern "C" fn imurraqi_field_code(layout: &[u8; 9], channel: u8, bytes: &[u8
     ensures answer { result ≡ code_number (code_answer (layout_of layout.now) channel bytes.now) }
 {
     match field::field_code(layout_of(layout), channel, bytes) {
-        FieldCode::Code(code) => code as i64,
-        FieldCode::Refused(number) => refused(number),
+        Ok(code) => code as i64,
+        Err(refusal) => refused(refusal),
     }
 }
 
@@ -27,10 +26,10 @@ pub extern "C" fn imurraqi_field_bytes(layout: &[u8; 9], channel: u8, first: &mu
     ensures memory { first.new ≡ first_after (bytes_answer (layout_of layout.now) channel) first.old }
 {
     match field::field_bytes(layout_of(layout), channel) {
-        FieldBytes::Held(field) => {
+        Ok(field) => {
             *first = field.first as u8;
             field.count as i64
         }
-        FieldBytes::Refused(number) => refused(number),
+        Err(refusal) => refused(refusal),
     }
 }

@@ -7,17 +7,15 @@ ghost use Rattle.c_types.specs.Layouts.{facts_of};
 ghost use Rattle.c_history.specs.History.{read_numbers, decoded_numbers, replay_number, replay_read, replay_decoded};
 
 use c_types::{facts_of, refused};
-use card::CardReading;
-use custody::Replayed;
-use line::LineAnswer;
+use card_table::Facts;
+use refusal::Refusal;
 
 // The numbers of the last reading.
-fn read_numbers(reading: CardReading) -> [u64; 14]
+fn read_numbers(reading: Result<Facts, Refusal>) -> [u64; 14]
     ensures { result ≡ read_numbers reading }
 {
     match reading {
-        CardReading::Refused(number) => [number as u64, 0, 0, 0, 0, 0, 0, 0, 0, 0, 0, 0, 0, 0],
-        CardReading::Shown(facts) => {
+        Ok(facts) => {
             let layout = facts.layout;
             [
                 0,
@@ -36,16 +34,32 @@ fn read_numbers(reading: CardReading) -> [u64; 14]
                 facts.access as u64,
             ]
         }
+        Err(refusal) => [
+            refusal.number() as u64,
+            0,
+            0,
+            0,
+            0,
+            0,
+            0,
+            0,
+            0,
+            0,
+            0,
+            0,
+            0,
+            0,
+        ],
     }
 }
 
 // The numbers of the decoding.
-fn decoded_numbers(decoding: LineAnswer) -> [u64; 2]
+fn decoded_numbers(decoding: Result<usize, Refusal>) -> [u64; 2]
     ensures { result ≡ decoded_numbers decoding }
 {
     match decoding {
-        LineAnswer::Refused(number) => [number as u64, 0],
-        LineAnswer::Points(count) => [0, count as u64],
+        Ok(count) => [0, count as u64],
+        Err(refusal) => [refusal.number() as u64, 0],
     }
 }
 
@@ -94,11 +108,11 @@ pub extern "C" fn imurraqi_replay(
         first, facts, card, editions, lengths, outputs, answers, last, packed, values,
     );
     match replayed {
-        Replayed::NotBegun(number) => refused(number),
-        Replayed::Ended { reading, decoding } => {
-            *read = read_numbers(reading);
-            *decoded = decoded_numbers(decoding);
+        Ok(ended) => {
+            *read = read_numbers(ended.reading);
+            *decoded = decoded_numbers(ended.decoding);
             0
         }
+        Err(refusal) => refused(refusal),
     }
 }

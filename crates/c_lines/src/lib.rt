@@ -11,7 +11,7 @@ ghost use Rattle.c_types.specs.Numbers.{line_number, clamped_number, cuts_after}
 ghost use Rattle.c_lines.specs.Points.{point_of, decoded_number, decoded_values};
 
 use c_types::{clamped_number, layout_of, line_number, refused};
-use scanline::{DecodedPoint, Point};
+use scanline::Point;
 
 // The count of points of a line of one.
 const ONE_POINT: i64 = 1;
@@ -23,11 +23,11 @@ pub extern "C" fn imurraqi_decode_point(layout: &[u8; 9], bytes: &[u8], point: &
     ensures memory { point.new ≡ decoded_values (decode_point (layout_of layout.now) bytes.now) point.old }
 {
     match scanline::decode_point(layout_of(layout), bytes) {
-        DecodedPoint::Decoded(decoded) => {
+        Ok(decoded) => {
             *point = [decoded.channel0, decoded.channel1, decoded.channel2];
             ONE_POINT
         }
-        DecodedPoint::Refused(number) => refused(number),
+        Err(refusal) => refused(refusal),
     }
 }
 
@@ -55,9 +55,9 @@ pub extern "C" fn imurraqi_encode_point(
     ensures cuts { cuts.new ≡ cuts_after (encode_point_answer (layout_of layout.now) (point_of channel0 channel1 channel2) (length out.old)) cuts.old }
 {
     let point = Point {
-        channel0: channel0,
-        channel1: channel1,
-        channel2: channel2,
+        channel0,
+        channel1,
+        channel2,
     };
     clamped_number(scanline::encode_point(layout_of(layout), point, out), cuts)
 }

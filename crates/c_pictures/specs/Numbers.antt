@@ -1,16 +1,9 @@
 -- The answers of pictures as C sees them: a number of 0 or more is the answer, and a refusal is minus its number (include/imurraqi.h). Assumes nothing.
-use Rattle.std.specs.Prelude.{ℤ, pos, neg_ℤ}
-use Rattle.picture.specs.declared.PictureAnswer.{PictureAnswer}
-use Rattle.picture.specs.declared.PictureAnswer.TheVariants.{Points, Refused}
-use Rattle.picture.specs.declared.PictureLength.{PictureLength}
-use Rattle.picture.specs.declared.PictureLength.TheVariants.{Bytes, Refused as NoLength}
+use Rattle.refusal.specs.declared.Refusal.{Refusal}
+use Rattle.refusal.specs.Refusal.{number_of}
+use Rattle.std.specs.Prelude.{ℤ, pos, neg_ℤ, Result, Ok, Err, ℕ}
 
--- the count of points
-abbrev pub picture_number : PictureAnswer → ℤ
-picture_number (Points n) = pos n
-picture_number (Refused k) = neg_ℤ (pos k)
-
--- how many bytes
-abbrev pub bytes_number : PictureLength → ℤ
-bytes_number (Bytes n) = pos n
-bytes_number (NoLength k) = neg_ℤ (pos k)
+-- the count of points, or how many bytes
+abbrev pub picture_number : Result ℕ Refusal → ℤ
+picture_number (Ok n) = pos n
+picture_number (Err k) = neg_ℤ (pos (number_of k))

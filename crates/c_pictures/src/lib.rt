@@ -5,28 +5,18 @@ ghost use Rattle.std.specs.Prelude.{◌≡◌, length};
 ghost use Rattle.ppm_export.specs.Export.{export_answer, export_output, export_length};
 ghost use Rattle.ppm_card.specs.Card.{import_length};
 ghost use Rattle.ppm_import.specs.Import.{import_answer, import_card, import_packed};
-ghost use Rattle.c_pictures.specs.Numbers.{picture_number, bytes_number};
+ghost use Rattle.c_pictures.specs.Numbers.{picture_number};
 
 use c_types::refused;
-use picture::{PictureAnswer, PictureLength};
+use refusal::Refusal;
 
-// A picture's answer: its count of points, or its refusal.
-fn picture_number(answer: PictureAnswer) -> i64
+// A picture's answer: its count of points, or how many bytes, or its refusal.
+fn picture_number(answer: Result<u32, Refusal>) -> i64
     ensures { result ≡ picture_number answer }
 {
     match answer {
-        PictureAnswer::Points(count) => count as i64,
-        PictureAnswer::Refused(number) => refused(number),
-    }
-}
-
-// A length: so many bytes, or the refusal.
-fn bytes_number(length: PictureLength) -> i64
-    ensures { result ≡ bytes_number length }
-{
-    match length {
-        PictureLength::Bytes(count) => count as i64,
-        PictureLength::Refused(number) => refused(number),
+        Ok(count) => count as i64,
+        Err(refusal) => refused(refusal),
     }
 }
 
@@ -47,9 +37,9 @@ pub extern "C" fn imurraqi_ppm_export(
 // How many bytes that file will have.
 #[unsafe(no_mangle)]
 pub extern "C" fn imurraqi_ppm_export_len(card: &[u8], edition: u8) -> i64
-    ensures answer { result ≡ bytes_number (export_length card.now edition) }
+    ensures answer { result ≡ picture_number (export_length card.now edition) }
 {
-    bytes_number(ppm_export::export_length(card, edition))
+    picture_number(ppm_export::export_length(card, edition))
 }
 
 // Makes a closed card and packed points of a picture file. Answers the count of points.
@@ -71,7 +61,7 @@ pub extern "C" fn imurraqi_ppm_import(
 // How many bytes of packed points there will be.
 #[unsafe(no_mangle)]
 pub extern "C" fn imurraqi_ppm_import_len(ppm: &[u8]) -> i64
-    ensures answer { result ≡ bytes_number (import_length ppm.now) }
+    ensures answer { result ≡ picture_number (import_length ppm.now) }
 {
-    bytes_number(ppm_import::import_length(ppm))
+    picture_number(ppm_import::import_length(ppm))
 }

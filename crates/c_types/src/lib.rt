@@ -3,48 +3,55 @@
 #![tactic(auto)]
 
 ghost use Rattle.std.specs.Prelude.{◌≡◌, cond, pos, neg_ℤ};
+ghost use Rattle.refusal.specs.Refusal.{number_of};
 ghost use Rattle.c_types.specs.Layouts.{layout_of, layout_bytes, facts_of};
-ghost use Rattle.c_types.specs.Numbers.{line_number, without_cuts, clamped_number, cuts_after, counted};
+ghost use Rattle.c_types.specs.Numbers.{written_number, line_number, without_cuts, clamped_number, cuts_after, counted};
 
 use card_table::Facts;
 use layout::Layout;
-use line::{ClampedAnswer, LineAnswer, MOST_POINTS};
+use line::MOST_POINTS;
+use refusal::Refusal;
 
 // A refusal: minus its number.
-pub fn refused(number: u8) -> i64
-    ensures { result ≡ neg_ℤ (pos number) }
+pub fn refused(refusal: Refusal) -> i64
+    ensures { result ≡ neg_ℤ (pos (number_of refusal)) }
 {
-    -(number as i64)
+    -(refusal.number() as i64)
+}
+
+// What answers nothing else: 0, or its refusal.
+pub fn written_number(answer: Result<(), Refusal>) -> i64
+    ensures { result ≡ written_number answer }
+{
+    match answer {
+        Ok(()) => 0,
+        Err(refusal) => refused(refusal),
+    }
 }
 
 // A line's answer: its count of points, or its refusal. (0 for more points than a line can have: a count that no function on
 // lines answers, and that need not fit an i64.)
-pub fn line_number(answer: LineAnswer) -> i64
+pub fn line_number(answer: Result<usize, Refusal>) -> i64
     ensures { result ≡ cond (counted answer) (line_number answer) (pos 0) }
 {
     match answer {
-        LineAnswer::Points(count) => {
-            if count <= MOST_POINTS {
-                count as i64
-            } else {
-                0
-            }
-        }
-        LineAnswer::Refused(number) => refused(number),
+        Ok(count) if count <= MOST_POINTS => count as i64,
+        Ok(_) => 0,
+        Err(refusal) => refused(refusal),
     }
 }
 
 // The same of an answer with cuts, whose number of cuts goes behind the pointer; a refusal leaves it as it was.
-pub fn clamped_number(answer: ClampedAnswer, cuts: &mut u32) -> i64
+pub fn clamped_number(answer: Result<(usize, u32), Refusal>, cuts: &mut u32) -> i64
     ensures answer { result ≡ cond (counted (without_cuts answer)) (clamped_number answer) (pos 0) }
     ensures memory { cuts.new ≡ cuts_after answer cuts.old }
 {
     match answer {
-        ClampedAnswer::Points(count, cut) => {
+        Ok((count, cut)) => {
             *cuts = cut;
-            line_number(LineAnswer::Points(count))
+            line_number(Ok(count))
         }
-        ClampedAnswer::Refused(number) => line_number(LineAnswer::Refused(number)),
+        Err(refusal) => line_number(Err(refusal)),
     }
 }
 
@@ -88,9 +95,9 @@ pub fn facts_of(layout: &[u8; 9], width: u16, height: u16, item: u64, access: u8
 {
     Facts {
         layout: layout_of(layout),
-        width: width,
-        height: height,
-        item: item,
-        access: access,
+        width,
+        height,
+        item,
+        access,
     }
 }

@@ -6,7 +6,7 @@ ghost use Rattle.quantization.specs.Answer.{dequantized, quantized};
 ghost use Rattle.c_values.specs.Numbers.{dequantized_number, dequantized_value, quantized_number, quantized_cuts};
 
 use c_types::refused;
-use quantization::{Dequantized, Quantized};
+use quantization::Dequantized;
 
 // The float of a code. Answers 0 for a brightness, 1 for a difference.
 #[unsafe(no_mangle)]
@@ -30,7 +30,7 @@ pub extern "C" fn imurraqi_dequantize(
             *value = difference;
             1
         }
-        Dequantized::Refused(number) => refused(number),
+        Dequantized::Refused(refusal) => refused(refusal),
     }
 }
 
@@ -48,10 +48,10 @@ pub extern "C" fn imurraqi_quantize(
     ensures memory { cuts.new ≡ quantized_cuts (quantized model range depth channel value) cuts.old }
 {
     match quantization::quantize(model, range, depth, channel, value) {
-        Quantized::Code(clamped) => {
+        Ok(clamped) => {
             *cuts = clamped.cut as u32;
             clamped.code as i64
         }
-        Quantized::Refused(number) => refused(number),
+        Err(refusal) => refused(refusal),
     }
 }

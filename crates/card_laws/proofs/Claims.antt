@@ -13,13 +13,8 @@ use Rattle.lists.proofs.Tests.{pass, stop}
 use Rattle.card_edition.specs.Edition.{edition_known}
 use Rattle.card_table.specs.Facts.{facts_valid, odd_width}
 use Rattle.card_table.specs.Table.{card_size, card_bytes}
-use Rattle.card_reader.specs.declared.CardReading.{CardReading}
-use Rattle.card_reader.specs.declared.CardReading.TheVariants.{Shown, Refused as NotShown}
 use Rattle.card_reader.specs.Reading.{read_card}
 use Rattle.card_reader.proofs.Shown.{accepted as shown-says}
-use Rattle.refusal.specs.declared.Written.{Written}
-use Rattle.refusal.specs.declared.Written.TheVariants.{Done, Refused}
-use Rattle.refusal.specs.Written.{accepted}
 use Rattle.card_writer.specs.Writing.{unwritable, valid_at, write_answer, write_output}
 use Rattle.card.specs.Rewriting.{then_write, then_output, rewrite_answer, rewrite_output}
 use Rattle.card_writer.proofs.Answers.{changed}
@@ -29,24 +24,28 @@ use Rattle.card_laws.proofs.Written.{read_card_lem}
 use Rattle.card_laws.proofs.Any.{valid-shown, never_more, as_it_stands}
 use Rattle.card_laws.proofs.NoOther.{no_other}
 use Rattle.card_laws.proofs.Later.{later_shown, odd_refused}
+use Rattle.std.specs.Prelude.{Result, Ok, Err, is_ok, ⊤}
+use Rattle.refusal.specs.declared.Refusal.{Refusal}
+use Rattle.card_table.specs.declared.facts.Facts.{Facts}
+use Rattle.refusal.specs.declared.Refusal.TheVariants.{OddCount, Outside, UnknownEdition, Unwritable, WrongLineOrOutput}
 use Rattle.card_laws.proofs.Rewritten.{rewrite_order, result_shows, never_opens}
 
 -- a row that did not apply
-row : (t : Bool) (n : ℕ) (rest : Written) → cond t (Refused n) rest ≡ Done → (t ≡ false) × (rest ≡ Done)
-row true n rest h = let z : ◌≡◌ {A = ℕ} 0 1 = cc in absurd (omega arith)
-row false n rest h = (refl, h)
+row : (t : Bool) (refusal : Refusal) (rest : Result ⊤ Refusal) → cond t (Err refusal) rest ≡ (Ok tt) → (t ≡ false) × (rest ≡ (Ok tt))
+row true refusal rest h = cc
+row false refusal rest h = (refl, h)
 
 pub writes_no_other : WritesNoOther
 unfolding write_answer valid_at
 writes_no_other e f bytes h =
-    let r₄ : Written = cond (not (eqb bytes card_size)) (Refused 13) Done in
-    let r₃ : Written = cond (unwritable e f) (Refused 11) r₄ in
-    let r₂ : Written = cond (odd_width f) (Refused 16) r₃ in
-    let r₁ : Written = cond (not (facts_valid f)) (Refused 9) r₂ in
-    let h₁ = row (not (edition_known e)) 7 r₁ h in
-    let h₂ = row (not (facts_valid f)) 9 r₂ h₁.1 in
-    let h₃ = row (odd_width f) 16 r₃ h₂.1 in
-    let h₄ = row (unwritable e f) 11 r₄ h₃.1 in
+    let r₄ : (Result ⊤ Refusal) = cond (not (eqb bytes card_size)) (Err WrongLineOrOutput) (Ok tt) in
+    let r₃ : (Result ⊤ Refusal) = cond (unwritable e f) (Err Unwritable) r₄ in
+    let r₂ : (Result ⊤ Refusal) = cond (odd_width f) (Err OddCount) r₃ in
+    let r₁ : (Result ⊤ Refusal) = cond (not (facts_valid f)) (Err Outside) r₂ in
+    let h₁ = row (not (edition_known e)) UnknownEdition r₁ h in
+    let h₂ = row (not (facts_valid f)) Outside r₂ h₁.1 in
+    let h₃ = row (odd_width f) OddCount r₃ h₂.1 in
+    let h₄ = row (unwritable e f) Unwritable r₄ h₃.1 in
     λ i. not-false (edition_known e) h₁.0 i && not-false (facts_valid f) h₂.0 i && not (h₃.0 i) && not (h₄.0 i)
 
 pub shows_what_was_written : ShowsWhatWasWritten
@@ -86,15 +85,15 @@ shows_no_odd_width w e f others v o n k l lw = odd_refused w e f others v n k l 
 
 pub writes_nothing_refused : WritesNothingRefused
 unfolding write_output
-writes_nothing_refused e f out k h = ap (λ (w : Written). new_or_kept (accepted w) (card_bytes e f) out) h
+writes_nothing_refused e f out k h = ap (λ (w : Result ⊤ Refusal). new_or_kept (is_ok w) (card_bytes e f) out) h
 
 pub rewrites_nothing_refused : RewritesNothingRefused
 unfolding rewrite_answer rewrite_output
 rewrites_nothing_refused b e out k h = go (read_card b e) h
   where
-    go : (r : CardReading) → then_write r e (length out) ≡ Refused k → then_output r e out ≡ out
-    go (NotShown n) q = refl
-    go (Shown f) q = writes_nothing_refused e f out k q
+    go : (r : Result Facts Refusal) → then_write r e (length out) ≡ Err k → then_output r e out ≡ out
+    go (Err n) q = refl
+    go (Ok f) q = writes_nothing_refused e f out k q
 
 pub rewrites_in_order : RewritesInOrder
 rewrites_in_order = rewrite_order

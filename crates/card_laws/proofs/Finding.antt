@@ -6,23 +6,20 @@ use mathlib.Core.List.{List}
 use native.Mathlib.Omega.{arith}
 use borrow.Author.Tests.{eq-eqb, eqb-true}
 use lib.ListN.{length, length-take, length-drop}
-use Rattle.card_reader.specs.declared.CardReading.{CardReading}
-use Rattle.card_reader.specs.declared.CardReading.TheVariants.{Shown, Refused as NotShown}
 use Rattle.card_reader.specs.Reading.{read_card, shows_item}
-use Rattle.refusal.specs.Refusal.{wrong_length, unknown_edition, no_item}
-use Rattle.stack.specs.declared.Found.TheVariants.{Refused}
 use Rattle.stack.specs.Stack.{cards_in, card_at}
 use Rattle.stack.specs.Finding.{has_item}
 use Rattle.stack.proofs.First.{first_is, none_is, is_first, is_none}
 use Rattle.stack.proofs.Answers.{located-first, searched, searched_at, located_in}
+use Rattle.std.specs.Prelude.{Result, Ok, Err}
+use Rattle.refusal.specs.declared.Refusal.TheVariants.{NoItem, UnknownEdition, WrongLength}
+use Rattle.refusal.specs.declared.Refusal.{Refusal}
+use Rattle.card_table.specs.declared.facts.Facts.{Facts}
 use Rattle.card_laws.specs.Finding.{Has, LocatesTheFirst, LocatesIt, NoneWhere15, FifteenWhereNone, FindsWholeCards}
 
-shown : (s : List ℕ) (e item k : ℕ) → k < cards_in (length s) → (r : CardReading) → read_card (card_at s k) e ≡ r → shows_item item r ≡ true → Has s e item k
-shown s e item k h (Shown f) q t = record { inside = h; facts = f; shown = q; number = eqb-true _ _ t }
-shown s e item k h (NotShown n) q t = absurd (clash t)
-  where
-    clash : ◌≡◌ {A = Bool} false true → ⊥
-    clash e = let z : ◌≡◌ {A = ℕ} 0 1 = cc in omega arith
+shown : (s : List ℕ) (e item k : ℕ) → k < cards_in (length s) → (r : Result Facts Refusal) → read_card (card_at s k) e ≡ r → shows_item item r ≡ true → Has s e item k
+shown s e item k h (Ok f) q t = record { inside = h; facts = f; shown = q; number = eqb-true _ _ t }
+shown s e item k h (Err n) q t = cc
 
 -- a card that passes the search's test has the item
 has : (s : List ℕ) (e item k : ℕ) → k < cards_in (length s) → has_item s e item k ≡ true → Has s e item k
@@ -42,7 +39,7 @@ fails s e item k none h = go (has_item s e item k) refl
     go false q = refl
 
 not_both : {b : Bool} → b ≡ true → b ≡ false → ⊥
-not_both p q = let z : ◌≡◌ {A = ℕ} 0 1 = cc in omega arith
+not_both p q = cc
 
 pub locates_the_first : LocatesTheFirst
 locates_the_first s e item k h =
@@ -67,16 +64,16 @@ fifteen_where_none s e item w d none =
     located-first s e item (ap not w) (ap not d)
     ∙ is_none (has_item s e item) 0 (cards_in (length s)) (λ j l h. fails s e item j (none j) (omega arith))
 
-not_1 : Refused wrong_length ≡ Refused no_item → ⊥
-not_1 e = let z : wrong_length ≡ no_item = cc in omega arith
+not_1 : ◌≡◌ {A = Result ℕ Refusal} (Err WrongLength) (Err NoItem) → ⊥
+not_1 e = cc
 
-not_7 : Refused unknown_edition ≡ Refused no_item → ⊥
-not_7 e = let z : unknown_edition ≡ no_item = cc in omega arith
+not_7 : ◌≡◌ {A = Result ℕ Refusal} (Err UnknownEdition) (Err NoItem) → ⊥
+not_7 e = cc
 
 pub none_where_15 : NoneWhere15
 none_where_15 s e item h k g =
-    let r = searched s e item (Refused no_item) h not_1 not_7 in
-    not_both (passes s e item k g) (none_is (has_item s e item) 0 (cards_in (length s)) no_item r.search k (omega arith) (omega (arith, g.inside)))
+    let r = searched s e item (Err NoItem) h not_1 not_7 in
+    not_both (passes s e item k g) (none_is (has_item s e item) 0 (cards_in (length s)) NoItem r.search k (omega arith) (omega (arith, g.inside)))
 
 pub finds_whole_cards : FindsWholeCards
 finds_whole_cards s e item k h = simp (length-take, length-drop) (omega (arith, located_in s e item k h))

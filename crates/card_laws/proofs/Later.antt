@@ -15,10 +15,11 @@ use Rattle.card_table.specs.Facts.{least_edition, facts_valid, odd_width, with_a
 use Rattle.card_edition.specs.Access.{closed, access_known, access_of, access_unknown}
 use Rattle.card_table.specs.Table.{card_size, card_bytes}
 use Rattle.card_table.proofs.Least.{least_with, least_some}
-use Rattle.card_reader.specs.declared.CardReading.TheVariants.{Shown, Refused}
 use Rattle.card_reader.specs.Reading.{layout_in, facts_in, front_right, end_wrong, read_card}
 use Rattle.card_reader.proofs.Answers.{shown}
 use Rattle.card_laws.proofs.Valid.{sizes, valid_with}
+use Rattle.std.specs.Prelude.{Ok, Err}
+use Rattle.refusal.specs.declared.Refusal.TheVariants.{OddCount}
 use Rattle.card_laws.proofs.Written.{width_is, height_is, item_is}
 
 -- bytes 0 to 23 of the table's card, and any others, at an edition that is not below the least
@@ -67,7 +68,7 @@ module _ (w e : ℕ) (f : Facts) (others : List ℕ) (v : facts_valid f ≡ true
   long_is = let z : length card ≡ card_size = omega (arith, n) in ap (λ (x : ℕ). eqb x card_size) z
 
   -- an odd width is refused, whatever the others are
-  pub odd_refused : odd_width f ≡ true → read_card card e ≡ Refused 16
+  pub odd_refused : odd_width f ≡ true → read_card card e ≡ Err OddCount
   unfolding read_card card
   odd_refused o =
       pass _ (ap not long_is) (pass _ (ap not k) (pass _ (least_some f) (pass _ (le-ltb e (least_edition f) l) (pass _ (ap not front_is) (stop _ (ap odd_width facts_is ∙ o))))))
@@ -89,8 +90,8 @@ module _ (w e : ℕ) (f : Facts) (others : List ℕ) (v : facts_valid f ≡ true
     unfolding end_wrong card
     end_is = λ i. not (has i) && not (eqb (number_at card 24 8) 0) || has i && later i && not (eqb (number_at card 25 7) 0)
 
-    pub later_shown : read_card card e ≡ Shown (with_access f (cond (has_access e && access_known (get_or others 0 0)) (get_or others 0 0) closed))
+    pub later_shown : read_card card e ≡ Ok (with_access f (cond (has_access e && access_known (get_or others 0 0)) (get_or others 0 0) closed))
     unfolding card access_of
     later_shown =
         sym (shown card e long_is k (least_some f) (le-ltb e (least_edition f) l) front_is (ap odd_width facts_is ∙ o) access_is end_is)
-        ∙ ap Shown facts_is ∙ (λ i. Shown (with_access f (cond (has i && has_access e && access_known (get_or others 0 0)) (get_or others 0 0) closed)))
+        ∙ ap Ok facts_is ∙ (λ i. Ok (with_access f (cond (has i && has_access e && access_known (get_or others 0 0)) (get_or others 0 0) closed)))

@@ -16,13 +16,14 @@ use Rattle.card_edition.specs.Edition.{newest, edition_known, has_access}
 use Rattle.card_table.specs.Facts.{least_edition, facts_valid, odd_width}
 use Rattle.card_edition.specs.Access.{closed, access_known, access_of, table_holds, access_unknown}
 use Rattle.card_table.specs.Table.{card_size, card_bytes}
-use Rattle.card_reader.specs.declared.CardReading.{CardReading}
-use Rattle.card_reader.specs.declared.CardReading.TheVariants.{Shown, Refused as NotShown}
 use Rattle.card_reader.specs.Reading.{writer_of, layout_in, facts_in, front_right, end_wrong, read_card}
-use Rattle.refusal.specs.declared.Written.TheVariants.{Done, Refused}
 use Rattle.card_writer.specs.Writing.{unwritable, write_answer}
 use Rattle.card_laws.proofs.Valid.{at}
 use Rattle.card_laws.specs.Printed.{Row7, Row8, from_two_to_reader, Row9OfTheEnd, Row10, Row11, Row16, AccessShown, ClosedOrAsItStandsFrom2, ClosedToEdition1, ClosedFromEdition1, ClosedOrShownFrom2, ReadsAsEdition3, ReadsItsOwnAsEdition3, WritesAsEdition3, WritesBytesOfEdition3}
+use Rattle.std.specs.Prelude.{Result, Ok, Err}
+use Rattle.refusal.specs.declared.Refusal.{Refusal}
+use Rattle.card_table.specs.declared.facts.Facts.{Facts}
+use Rattle.refusal.specs.declared.Refusal.TheVariants.{LaterEdition, OddCount, Outside, UnknownAccess, Unwritable, WrongLength, WrongLineOrOutput}
 use Rattle.card_laws.proofs.Claims.{closed_or_as_it_stands, shows-valid-facts, rewrites_never_open}
 
 -- ---- tests of numbers
@@ -157,15 +158,15 @@ pub reads_as_edition_3 : ReadsAsEdition3
 unfolding read_card facts_in access_of access_unknown end_wrong
 reads_as_edition_3 b h0 h1 =
     let w = get_or b 1 0 in
-    let answer : Bool → Bool → CardReading = λ t u.
-    cond (not (eqb (length b) card_size)) (NotShown 1)
-    (cond (eqb (get_or b 0 0) 0) (NotShown 9)
-    (cond t (NotShown 8)
-    (cond (not (front_right b (facts_in b 3))) (NotShown 9)
-    (cond (odd_width (facts_in b 3)) (NotShown 16)
-    (cond (has_access w && u && not (access_known (get_or b 24 0))) (NotShown 10)
-    (cond (not (has_access w) && not (eqb (number_at b 24 8) 0) || has_access w && u && not (eqb (number_at b 25 7) 0)) (NotShown 9)
-    (Shown (facts_in b 3)))))))) in
+    let answer : Bool → Bool → (Result Facts Refusal) = λ t u.
+    cond (not (eqb (length b) card_size)) (Err WrongLength)
+    (cond (eqb (get_or b 0 0) 0) (Err Outside)
+    (cond t (Err LaterEdition)
+    (cond (not (front_right b (facts_in b 3))) (Err Outside)
+    (cond (odd_width (facts_in b 3)) (Err OddCount)
+    (cond (has_access w && u && not (access_known (get_or b 24 0))) (Err UnknownAccess)
+    (cond (not (has_access w) && not (eqb (number_at b 24 8) 0) || has_access w && u && not (eqb (number_at b 25 7) 0)) (Err Outside)
+    (Ok (facts_in b 3)))))))) in
     ap₂ answer (le-ltb 4 (get_or b 0 0) (omega arith) ∙ sym (le-ltb 3 (get_or b 0 0) h0)) (le-leb w 4 (omega arith) ∙ sym (le-leb w 3 h1))
 
 pub writes_as_edition_3 : WritesAsEdition3
@@ -174,7 +175,7 @@ writes_as_edition_3 f bytes g =
     let l = f.layout in
     let least : ℕ → Bool → Bool = λ e t. ltb e (cond t 4 (cond (eqb l.range 3) 3 (cond (eqb l.depth 12) 2 1))) in
     let same : ltb 4 (least_edition f) ≡ ltb 3 (least_edition f) = ap (least 4) g ∙ go (eqb l.range 3) (eqb l.depth 12) ∙ sym (ap (least 3) g) in
-    ap (λ (t : Bool). cond (not (facts_valid f)) (Refused 9) (cond (odd_width f) (Refused 16) (cond (t || false) (Refused 11) (cond (not (eqb bytes card_size)) (Refused 13) Done)))) same
+    ap (λ (t : Bool). cond (not (facts_valid f)) (Err Outside) (cond (odd_width f) (Err OddCount) (cond (t || false) (Err Unwritable) (cond (not (eqb bytes card_size)) (Err WrongLineOrOutput) (Ok tt))))) same
   where
     go : (r d : Bool) → ltb 4 (cond r 3 (cond d 2 1)) ≡ ltb 3 (cond r 3 (cond d 2 1))
     go true d = refl
@@ -186,15 +187,15 @@ unfolding read_card layout_in facts_in front_right least_edition access_of acces
 reads_its_own_as_edition_3 least others h =
     let b = least ∷ 3 ∷ others in
     let f = facts_in b 3 in
-    let answer : Bool → Bool → CardReading = λ t u.
-    cond (not (eqb (length b) card_size)) (NotShown 1)
-    (cond (eqb least 0) (NotShown 9)
-    (cond t (NotShown 8)
-    (cond (not (eqb least (least_edition f) && u && facts_valid f && eqb (get_or b 11 0) 0)) (NotShown 9)
-    (cond (odd_width f) (NotShown 16)
-    (cond (not (access_known (get_or b 24 0))) (NotShown 10)
-    (cond (not (eqb (number_at b 25 7) 0)) (NotShown 9)
-    (Shown f))))))) in
+    let answer : Bool → Bool → (Result Facts Refusal) = λ t u.
+    cond (not (eqb (length b) card_size)) (Err WrongLength)
+    (cond (eqb least 0) (Err Outside)
+    (cond t (Err LaterEdition)
+    (cond (not (eqb least (least_edition f) && u && facts_valid f && eqb (get_or b 11 0) 0)) (Err Outside)
+    (cond (odd_width f) (Err OddCount)
+    (cond (not (access_known (get_or b 24 0))) (Err UnknownAccess)
+    (cond (not (eqb (number_at b 25 7) 0)) (Err Outside)
+    (Ok f))))))) in
     ap₂ answer (le-ltb 4 least (omega arith) ∙ sym (le-ltb 3 least h)) (le-leb least 4 (omega arith) ∙ sym (le-leb least 3 h))
 
 pub writes_bytes_of_edition_3 : WritesBytesOfEdition3

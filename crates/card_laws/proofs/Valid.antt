@@ -12,7 +12,8 @@ use Rattle.card_edition.specs.Edition.{edition_known, has_access}
 use Rattle.card_table.specs.Facts.{least_edition, largest_side, side_known, facts_valid, odd_width, with_access}
 use Rattle.card_edition.specs.Access.{closed, access_known}
 use Rattle.card_table.specs.Table.{card_size}
-use Rattle.refusal.specs.declared.Written.TheVariants.{Done, Refused}
+use Rattle.std.specs.Prelude.{Ok, Err}
+use Rattle.refusal.specs.declared.Refusal.TheVariants.{WrongLineOrOutput}
 use Rattle.card_writer.specs.Writing.{unwritable, valid_at, write_answer}
 
 pub or_left : (a b : Bool) → a || b ≡ false → a ≡ false
@@ -89,6 +90,6 @@ at e f v =
     }
 
 -- only row 13 is left
-pub write_valid : (e : ℕ) (f : Facts) (bytes : ℕ) → At e f → write_answer e f bytes ≡ cond (not (eqb bytes card_size)) (Refused 13) Done
+pub write_valid : (e : ℕ) (f : Facts) (bytes : ℕ) → At e f → write_answer e f bytes ≡ cond (not (eqb bytes card_size)) (Err WrongLineOrOutput) (Ok tt)
 unfolding write_answer
 write_valid e f bytes v = pass _ (ap not v.edition) (pass _ (ap not v.facts) (pass _ v.even (pass _ v.writable refl)))

@@ -16,10 +16,10 @@ use Rattle.card_edition.specs.Access.{closed, access_known, access_of, table_hol
 use Rattle.card_table.specs.Table.{card_size, card_bytes}
 use Rattle.card_table.proofs.Least.{least_with, least_some}
 use Rattle.card_table.proofs.Table.{length-card}
-use Rattle.card_reader.specs.declared.CardReading.TheVariants.{Shown}
 use Rattle.card_reader.specs.Reading.{layout_in, facts_in, front_right, end_wrong, read_card}
 use Rattle.card_reader.proofs.Answers.{refused_7, refused_8, shown}
 use Rattle.card_laws.specs.Claims.{shows}
+use Rattle.std.specs.Prelude.{Ok}
 use Rattle.card_laws.proofs.Valid.{Sizes, sizes, valid_with, At}
 
 -- the access that is shown of a card of valid facts
@@ -105,9 +105,9 @@ module _ (e e' : ℕ) (f : Facts) (v : At e f) where
   long_is = ap (λ (n : ℕ). eqb n card_size) (length-card e f)
 
   -- no row applies
-  read_shown : edition_known e' ≡ true → ltb e' (least_edition f) ≡ false → read_card (card_bytes e f) e' ≡ Shown seen
+  read_shown : edition_known e' ≡ true → ltb e' (least_edition f) ≡ false → read_card (card_bytes e f) e' ≡ Ok seen
   unfolding card_bytes bytes_of
-  read_shown k h = sym (shown (card_bytes e f) e' long_is k (least_some f) h front_is even_is access_is rest_right) ∙ ap Shown facts_is
+  read_shown k h = sym (shown (card_bytes e f) e' long_is k (least_some f) h front_is even_is access_is rest_right) ∙ ap Ok facts_is
 
   by_rows : (k h : Bool) → edition_known e' ≡ k → ltb e' (least_edition f) ≡ h → read_card (card_bytes e f) e' ≡ shows f e'
   unfolding shows card_bytes

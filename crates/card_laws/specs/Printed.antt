@@ -1,5 +1,5 @@
 -- What is printed of editions 1 to 4 in document 01, "Card" and "Numbers on the refusal slip", with requests A1 and A6, beside the definitions and the claims, which are stated for any editions. proofs/Printed.antt proves each. Assumes nothing.
-use Rattle.std.specs.Prelude.{ℕ, ◌%◌, ◌≤◌, Bool, true, false, not, cond, ◌&&◌, ◌||◌, ◌≡◌, ◌⊎◌, List, ◌∷◌, eqb, leb, ltb, length, get_or, set}
+use Rattle.std.specs.Prelude.{ℕ, ◌%◌, ◌≤◌, Bool, true, false, not, cond, ◌&&◌, ◌||◌, ◌≡◌, ◌⊎◌, List, ◌∷◌, eqb, leb, ltb, length, get_or, set, Ok}
 use Rattle.lists.specs.Bytes.{number_at}
 use Rattle.layout.specs.declared.Layout.{Layout}
 use Rattle.card_table.specs.declared.facts.Facts.{Facts}
@@ -7,9 +7,7 @@ use Rattle.card_edition.specs.Edition.{edition_known}
 use Rattle.card_table.specs.Facts.{least_edition, odd_width}
 use Rattle.card_edition.specs.Access.{closed, access_of, access_unknown}
 use Rattle.card_table.specs.Table.{card_bytes}
-use Rattle.card_reader.specs.declared.CardReading.TheVariants.{Shown}
 use Rattle.card_reader.specs.Reading.{writer_of, end_wrong, read_card}
-use Rattle.refusal.specs.declared.Written.TheVariants.{Done}
 use Rattle.card_writer.specs.Writing.{unwritable, write_answer}
 use Rattle.card.specs.Rewriting.{rewrite_answer, rewrite_output}
 
@@ -63,21 +61,21 @@ AccessShown =
 -- it is closed, or byte 24 as it stands; that only where the reader and the writer are at 2 or later
 abbrev pub ClosedOrAsItStandsFrom2 : Type 0
 ClosedOrAsItStandsFrom2 =
-    (b : List ℕ) (e : ℕ) (f : Facts) → read_card b e ≡ Shown f → (f.access ≡ closed) ⊎ ((f.access ≡ get_or b 24 0) × (2 ≤ e) × (2 ≤ get_or b 1 0))
+    (b : List ℕ) (e : ℕ) (f : Facts) → read_card b e ≡ Ok f → (f.access ≡ closed) ⊎ ((f.access ≡ get_or b 24 0) × (2 ≤ e) × (2 ≤ get_or b 1 0))
 
 -- it is closed where the reader is at 1
 abbrev pub ClosedToEdition1 : Type 0
-ClosedToEdition1 = (b : List ℕ) (f : Facts) → read_card b 1 ≡ Shown f → f.access ≡ closed
+ClosedToEdition1 = (b : List ℕ) (f : Facts) → read_card b 1 ≡ Ok f → f.access ≡ closed
 
 -- and where the writer was
 abbrev pub ClosedFromEdition1 : Type 0
-ClosedFromEdition1 = (b : List ℕ) (e : ℕ) (f : Facts) → read_card b e ≡ Shown f → get_or b 1 0 ≡ 1 → f.access ≡ closed
+ClosedFromEdition1 = (b : List ℕ) (e : ℕ) (f : Facts) → read_card b e ≡ Ok f → get_or b 1 0 ≡ 1 → f.access ≡ closed
 
 -- a rewrite never opens: what any edition shows of its result is closed, or was shown before at the rewrite's own edition, which is 2, 3 or 4
 abbrev pub ClosedOrShownFrom2 : Type 0
 ClosedOrShownFrom2 =
-    (b : List ℕ) (e e' : ℕ) (g : Facts) (out : List ℕ) → rewrite_answer b e (length out) ≡ Done
-    → read_card (rewrite_output b e out) e' ≡ Shown g → (g.access ≡ closed) ⊎ (((e ≡ 2) ⊎ ((e ≡ 3) ⊎ (e ≡ 4))) × (read_card b e ≡ Shown g))
+    (b : List ℕ) (e e' : ℕ) (g : Facts) (out : List ℕ) → rewrite_answer b e (length out) ≡ (Ok tt)
+    → read_card (rewrite_output b e out) e' ≡ Ok g → (g.access ≡ closed) ⊎ (((e ≡ 2) ⊎ ((e ≡ 3) ⊎ (e ≡ 4))) × (read_card b e ≡ Ok g))
 
 -- ---- edition 4 is otherwise as 3 (A6)
 

@@ -1,14 +1,13 @@
 -- Document 01, "Card" and "Numbers on the refusal slip", with request A6: what reading a card at an edition answers. Assumes nothing.
-use Rattle.std.specs.Prelude.{ℕ, Bool, false, not, cond, ◌&&◌, ◌||◌, List, eqb, leb, ltb, length, get_or}
+use Rattle.std.specs.Prelude.{ℕ, Bool, false, not, cond, ◌&&◌, ◌||◌, List, eqb, leb, ltb, length, get_or, Result, Ok, Err}
 use Rattle.lists.specs.Bytes.{number_at}
 use Rattle.layout.specs.declared.Layout.{Layout}
-use Rattle.refusal.specs.Refusal.{wrong_length, unknown_edition, later_edition, outside, unknown_access, odd_count}
 use Rattle.card_table.specs.declared.facts.Facts.{Facts}
-use Rattle.card_reader.specs.declared.CardReading.{CardReading}
-use Rattle.card_reader.specs.declared.CardReading.TheVariants.{Shown, Refused}
 use Rattle.card_edition.specs.Edition.{edition_known, has_access}
 use Rattle.card_table.specs.Facts.{least_edition, facts_valid, odd_width}
 use Rattle.card_edition.specs.Access.{access_of, table_holds, access_unknown}
+use Rattle.refusal.specs.declared.Refusal.TheVariants.{LaterEdition, OddCount, Outside, UnknownAccess, UnknownEdition, WrongLength}
+use Rattle.refusal.specs.declared.Refusal.{Refusal}
 use Rattle.card_table.specs.Table.{card_size}
 
 -- ---- what the bytes hold
@@ -62,19 +61,19 @@ end_wrong b e =
 -- ---- the answer
 
 -- in the order 1, 7, 9 if byte 0 is 0, 8, 9 for bytes 1 to 23 and byte 0 too high or low for the layout, 16 (A6), 10, 9 for bytes 24 to 31
-unfoldable pub read_card : List ℕ → ℕ → CardReading
+unfoldable pub read_card : List ℕ → ℕ → Result Facts Refusal
 read_card b e =
-    cond (not (eqb (length b) card_size)) (Refused wrong_length)
-    (cond (not (edition_known e)) (Refused unknown_edition)
-    (cond (eqb (get_or b 0 0) 0) (Refused outside)
-    (cond (ltb e (get_or b 0 0)) (Refused later_edition)
-    (cond (not (front_right b (facts_in b e))) (Refused outside)
-    (cond (odd_width (facts_in b e)) (Refused odd_count)
-    (cond (access_unknown (writer_of b) (get_or b 24 0) e) (Refused unknown_access)
-    (cond (end_wrong b e) (Refused outside)
-    (Shown (facts_in b e)))))))))
+    cond (not (eqb (length b) card_size)) (Err WrongLength)
+    (cond (not (edition_known e)) (Err UnknownEdition)
+    (cond (eqb (get_or b 0 0) 0) (Err Outside)
+    (cond (ltb e (get_or b 0 0)) (Err LaterEdition)
+    (cond (not (front_right b (facts_in b e))) (Err Outside)
+    (cond (odd_width (facts_in b e)) (Err OddCount)
+    (cond (access_unknown (writer_of b) (get_or b 24 0) e) (Err UnknownAccess)
+    (cond (end_wrong b e) (Err Outside)
+    (Ok (facts_in b e)))))))))
 
 -- a reading shows the item; one that is refused shows none
-abbrev pub shows_item : ℕ → CardReading → Bool
-shows_item item (Shown f) = eqb f.item item
-shows_item item (Refused k) = false
+abbrev pub shows_item : ℕ → Result Facts Refusal → Bool
+shows_item item (Ok f) = eqb f.item item
+shows_item item (Err k) = false

@@ -1,16 +1,15 @@
 // Bytes 0 to 23 of a card, which every edition reads.
-ghost use Rattle.std.specs.Prelude.{◌≡◌, length};
-ghost use Rattle.card_table.specs.Table.{card_size};
+ghost use Rattle.std.specs.Prelude.{◌≡◌};
 ghost use Rattle.card_reader.specs.Reading.{layout_in, facts_in, front_right};
 
 use crate::number::{number2, number8};
 use card_edition::access;
-use card_table::Facts;
+use card_table::{Card, Facts};
 use layout::Layout;
 
 // The layout that the bytes hold.
-fn layout_in(bytes: &[u8]) -> Layout
-    requires { length bytes.now ≡ card_size }
+#[tactic(auto, unfolding(crate::specs::Reading::layout_in))]
+fn layout_in(bytes: &[u8; Card::SIZE]) -> Layout
     ensures { result ≡ layout_in bytes.now }
 {
     Layout {
@@ -27,27 +26,22 @@ fn layout_in(bytes: &[u8]) -> Layout
 }
 
 // The facts that the bytes hold, with the access that the edition shows.
-pub(crate) fn facts_in(bytes: &[u8], edition: u8) -> Facts
-    requires { length bytes.now ≡ card_size }
+#[tactic(auto, unfolding(crate::specs::Reading::facts_in))]
+pub(crate) fn facts_in(bytes: &[u8; Card::SIZE], edition: u8) -> Facts
     ensures { result ≡ facts_in bytes.now edition }
 {
-    let layout = layout_in(bytes);
-    let width = number2(bytes, 12);
-    let height = number2(bytes, 14);
-    let item = number8(bytes, 16);
-    let access = access::shown(bytes[1], bytes[24], edition);
     Facts {
-        layout: layout,
-        width: width,
-        height: height,
-        item: item,
-        access: access,
+        layout: layout_in(bytes),
+        width: number2(bytes, 12),
+        height: number2(bytes, 14),
+        item: number8(bytes, 16),
+        access: access::shown(bytes[1], bytes[24], edition),
     }
 }
 
 // Whether bytes 0 to 23 are as the table has them, but for an odd width, where they hold these facts.
-pub(crate) fn front_right(bytes: &[u8], facts: Facts) -> bool
-    requires { length bytes.now ≡ card_size }
+#[tactic(auto, unfolding(crate::specs::Reading::front_right))]
+pub(crate) fn front_right(bytes: &[u8; Card::SIZE], facts: Facts) -> bool
     ensures { result ≡ front_right bytes.now facts }
 {
     (bytes[0] == facts.least_edition()) & (bytes[0] <= bytes[1]) & facts.valid() & (bytes[11] == 0)

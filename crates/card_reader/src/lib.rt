@@ -6,38 +6,33 @@ ghost use Rattle.card_reader.specs.Reading.{read_card, shows_item};
 
 use card_edition::{access, edition};
 use card_table::{Card, Facts};
+use refusal::Refusal;
 
 mod end;
 mod front;
 mod number;
 
-// The facts that a card shows, or the refusal's number.
-#[derive(Clone, Copy)]
-pub enum CardReading {
-    Shown(Facts),
-    Refused(u8),
-}
-
 // What a card shows at an edition. Refused: 1, 7, 9 where byte 0 is 0, 8, 9 for
 // bytes 1 to 23 and a byte 0 that is not the layout's, 16, 10, 9 for bytes 24 to 31.
-pub fn read(bytes: &[u8], edition: u8) -> CardReading
+#[tactic(auto, unfolding(crate::specs::Reading::read_card))]
+pub fn read(bytes: &[u8], edition: u8) -> Result<Facts, Refusal>
     ensures answer { result ≡ read_card bytes.now edition }
 {
-    if bytes.len() != Card::SIZE {
-        return CardReading::Refused(refusal::WRONG_LENGTH);
-    }
+    let Ok(bytes) = <&[u8; Card::SIZE]>::try_from(bytes) else {
+        return Err(Refusal::WrongLength);
+    };
     if !edition::known(edition) {
-        return CardReading::Refused(refusal::UNKNOWN_EDITION);
+        return Err(Refusal::UnknownEdition);
     }
     if bytes[0] == 0 {
-        return CardReading::Refused(refusal::OUTSIDE);
+        return Err(Refusal::Outside);
     }
     if edition < bytes[0] {
-        return CardReading::Refused(refusal::LATER_EDITION);
+        return Err(Refusal::LaterEdition);
     }
     let facts = front::facts_in(bytes, edition);
     if !front::front_right(bytes, facts) {
-        return CardReading::Refused(refusal::OUTSIDE);
+        return Err(Refusal::Outside);
     }
     // All three tests come before any answer. With a return between them the compiler takes a later test to be rare, does
     // not inline it, and `read` takes twice as long.
@@ -45,15 +40,15 @@ pub fn read(bytes: &[u8], edition: u8) -> CardReading
     let unknown = access::unknown(bytes[1], bytes[24], edition);
     let wrong = end::end_wrong(bytes, edition);
     if odd {
-        return CardReading::Refused(refusal::ODD_COUNT);
+        return Err(Refusal::OddCount);
     }
     if unknown {
-        return CardReading::Refused(refusal::UNKNOWN_ACCESS);
+        return Err(Refusal::UnknownAccess);
     }
     if wrong {
-        return CardReading::Refused(refusal::OUTSIDE);
+        return Err(Refusal::Outside);
     }
-    CardReading::Shown(facts)
+    Ok(facts)
 }
 
 // Whether an edition reads a card and it has the item's number. The number is looked at first: most cards of a stack have
@@ -67,8 +62,5 @@ pub fn shows_item(bytes: &[u8], edition: u8, item: u64) -> bool
     if number::number8(bytes, 16) != item {
         return false;
     }
-    match read(bytes, edition) {
-        CardReading::Shown(facts) => facts.item == item,
-        CardReading::Refused(_) => false,
-    }
+    read(bytes, edition).is_ok()
 }

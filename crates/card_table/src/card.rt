@@ -27,16 +27,9 @@ impl Card {
     {
         let layout = facts.layout;
         let least = facts.least_edition();
-        let w = facts.width;
-        let h = facts.height;
-        let i0 = facts.item;
-        let i1 = i0 / 256;
-        let i2 = i1 / 256;
-        let i3 = i2 / 256;
-        let i4 = i3 / 256;
-        let i5 = i4 / 256;
-        let i6 = i5 / 256;
-        let i7 = i6 / 256;
+        let [w0, w1] = facts.width.to_le_bytes();
+        let [h0, h1] = facts.height.to_le_bytes();
+        let [i0, i1, i2, i3, i4, i5, i6, i7] = facts.item.to_le_bytes();
         let bytes = [
             least,
             edition,
@@ -50,18 +43,18 @@ impl Card {
             layout.offset1,
             layout.offset2,
             0,
-            (w % 256) as u8,
-            (w / 256 % 256) as u8,
-            (h % 256) as u8,
-            (h / 256 % 256) as u8,
-            (i0 % 256) as u8,
-            (i1 % 256) as u8,
-            (i2 % 256) as u8,
-            (i3 % 256) as u8,
-            (i4 % 256) as u8,
-            (i5 % 256) as u8,
-            (i6 % 256) as u8,
-            (i7 % 256) as u8,
+            w0,
+            w1,
+            h0,
+            h1,
+            i0,
+            i1,
+            i2,
+            i3,
+            i4,
+            i5,
+            i6,
+            i7,
             facts.access,
             0,
             0,
@@ -71,6 +64,6 @@ impl Card {
             0,
             0,
         ];
-        Card { bytes: bytes }
+        Card { bytes }
     }
 }

@@ -25,29 +25,27 @@ fn side_known(side: u16) -> bool
 
 impl Facts {
     // Whether no field is outside the paper. (An item is below 2^64 by its type.)
+    #[tactic(auto, unfolding(crate::specs::Facts::facts_valid))]
     pub fn valid(self) -> bool
         ensures { result ≡ facts_valid self }
     {
-        let layout = self.layout;
-        let item = self.item;
-        let access = self.access;
-        layout.valid()
+        self.layout.valid()
             & side_known(self.width)
             & side_known(self.height)
-            & (1 <= item)
-            & (access <= access::OPEN)
+            & (1 <= self.item)
+            & (self.access <= access::OPEN)
     }
 
     // Whether the width is odd where two points of a line make a group.
     pub fn odd_width(self) -> bool
         ensures { result ≡ odd_width self }
     {
-        let layout = self.layout;
-        layout.grouped() & (self.width % 2 == 1)
+        self.layout.grouped() & (self.width % 2 == 1)
     }
 
     // The least edition that can read a card of these facts: byte 0. Groups need edition 4, range 3 needs 3, and
     // 12 bits need 2.
+    #[tactic(auto, unfolding(crate::specs::Facts::least_edition))]
     pub fn least_edition(self) -> u8
         ensures { result ≡ least_edition self }
     {

@@ -14,9 +14,8 @@ use Rattle.parameters.specs.declared.range.Range.{Range}
 use Rattle.parameters.specs.declared.kind.Kind.TheVariants.{Brightness, Difference}
 use Rattle.parameters.specs.Parameters.{primaries_known, depth_known, range_of, top_of}
 use Rattle.parameters.proofs.Depths.{steps, known_between}
-use Rattle.line.specs.declared.ClampedAnswer.{ClampedAnswer}
 use Rattle.line.specs.Line.{codes_within}
-use Rattle.line.specs.Answer.{most_points, clamped_accepted}
+use Rattle.line.specs.Answer.{most_points}
 use Rattle.scale.specs.Scale.{scale_of}
 use Rattle.scale.proofs.Scales.{ends_le}
 use Rattle.quantization.specs.Code.{code_of_value}
@@ -32,6 +31,8 @@ use Rattle.color_bound.specs.Bound.{covered, nominal, allowed, Within, fair}
 use Rattle.color_bound.specs.Claims.{RowsFair, ReturnsNear, PointsReturnNear, Accepts, LinesReturnNear, BoundReached}
 use Rattle.color_bound.proofs.Return.{red_returns, green_returns, blue_returns}
 use Rattle.color_bound.proofs.Scales.{known, fits, lies, in_depth}
+use Rattle.std.specs.Prelude.{Result, is_ok}
+use Rattle.refusal.specs.declared.Refusal.{Refusal}
 use Rattle.color_bound.proofs.Lines.{length_converted, converted_every, line_near}
 
 pub rows_fair : RowsFair
@@ -114,8 +115,8 @@ lines_return_near p n from to points cs before again P N F T whole most each B A
       line_near f g (nominal from n) (allowed from to) points cs whole each (λ r g b j. points_return_near p n from to r g b j P N F T),
     )
   where
-    written : {a : ClampedAnswer} (xs old : List ℕ) → Accepts a points → new_or_kept (clamped_accepted a) xs old ≡ xs
-    written xs old (cuts, e) = ap (λ (x : ClampedAnswer). new_or_kept (clamped_accepted x) xs old) e
+    written : {a : Result (ℕ × ℕ) Refusal} (xs old : List ℕ) → Accepts a points → new_or_kept (is_ok a) xs old ≡ xs
+    written xs old (cuts, e) = ap (λ (x : Result (ℕ × ℕ) Refusal). new_or_kept (is_ok x) xs old) e
 
 pub bound_reached : BoundReached
 unfolding every scale_of code_of_value luma_of chroma_of primary_of green_from ycbcr_of rgb_of

@@ -1,15 +1,14 @@
 -- Request A5, "a bound I can print on the box": what is claimed of the definitions that the converters' contracts cite. proofs/Claims.antt proves each. Assumes nothing.
-use Rattle.std.specs.Prelude.{ℕ, ◌+◌, ◌*◌, ◌≤◌, ◌<◌, true, ◌≡◌, List, [], ◌∷◌, length, get_or}
+use Rattle.std.specs.Prelude.{ℕ, ◌+◌, ◌*◌, ◌≤◌, ◌<◌, true, ◌≡◌, List, [], ◌∷◌, length, get_or, Result, Ok}
 use Rattle.lists.specs.Lists.{every}
 use Rattle.parameters.specs.Parameters.{primaries_known, depth_known}
-use Rattle.line.specs.declared.ClampedAnswer.{ClampedAnswer}
-use Rattle.line.specs.declared.ClampedAnswer.TheVariants.{Points}
 use Rattle.line.specs.Answer.{most_points}
 use Rattle.color_equations.specs.declared.weights.Weights.{Weights}
 use Rattle.color_equations.specs.Weights.{weight_rows, weights_of}
 use Rattle.color_equations.specs.Conversion.{pick}
 use Rattle.color_equations.specs.Line.{to_ycbcr_answer, to_rgb_answer, to_ycbcr_output, to_rgb_output}
 use Rattle.color_model_laws.specs.Claims.{Shares}
+use Rattle.refusal.specs.declared.Refusal.{Refusal}
 use Rattle.color_bound.specs.Bound.{covered, nominal, allowed, Within, returned, fair}
 
 -- every row of the paper is fair, by one test of the table
@@ -17,8 +16,8 @@ abbrev pub RowsFair : Type 0
 RowsFair = every fair weight_rows ≡ true
 
 -- the answer accepts so many points, however many codes were cut
-abbrev pub Accepts : ClampedAnswer → ℕ → Type 0
-Accepts answer points = (cuts : ℕ) × (answer ≡ Points points cuts)
+abbrev pub Accepts : Result (ℕ × ℕ) Refusal → ℕ → Type 0
+Accepts answer points = (cuts : ℕ) × (answer ≡ Ok (points, cuts))
 
 -- a point comes back with each channel within the bound: one statement for all weights that are three shares of 1 and fair, all depths from 8 on, and ranges 1 and 2;
 abbrev pub ReturnsNear : Type 0

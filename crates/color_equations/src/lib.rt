@@ -3,4 +3,4 @@
 
 mod weights;
 
-pub use weights::{KnownWeights, Weights};
+pub use weights::Weights;

@@ -9,13 +9,6 @@ pub struct Weights {
     pub blue: u16,
 }
 
-// The weights of primaries, or that the paper has none.
-#[derive(Clone, Copy)]
-pub enum KnownWeights {
-    Known(Weights),
-    Unknown,
-}
-
 // BT.709, BT.601 EBU, BT.601 SMPTE, BT.2020.
 const ROWS: [Weights; 4] = [
     Weights {
@@ -38,12 +31,12 @@ const ROWS: [Weights; 4] = [
 
 impl Weights {
     // The row of primaries 1 to 4.
-    pub fn of(primaries: u8) -> KnownWeights
+    pub fn of(primaries: u8) -> Option<Weights>
         ensures { result ≡ known_weights primaries }
     {
         if !parameters::primaries_known(primaries) {
-            return KnownWeights::Unknown;
+            return None;
         }
-        KnownWeights::Known(ROWS[(primaries - 1) as usize])
+        Some(ROWS[(primaries - 1) as usize])
     }
 }

@@ -13,12 +13,12 @@ use Rattle.lists.proofs.Filled.{Filled, filled_all}
 use Rattle.fractions.specs.declared.Clamped.{Clamped}
 use Rattle.color_equations.specs.Line.{Converter, converted_of, converted_cuts}
 use Rattle.color_equations.proofs.Points.{point_at, converted_at_lem}
-use Rattle.color_line.specs.declared.row.Triple.{Triple}
+use Rattle.line.specs.declared.turns.Joined.{Joined}
 use Rattle.color_line.specs.inner.Rows.{code_at, cut_at, point_by, point_of}
 
 -- what the code makes of three clamped codes
 pub point_is : (g : ℕ → Clamped) {a b c : Clamped} → a ≡ g 0 → b ≡ g 1 → c ≡ g 2
-    → ◌≡◌ {A = Triple} (record { number = a.code + 65536 * b.code + 4294967296 * c.code; cuts = bool_byte a.cut + bool_byte b.cut + bool_byte c.cut }) (point_by g)
+    → ◌≡◌ {A = Joined} (record { number = a.code + 65536 * b.code + 4294967296 * c.code; cuts = bool_byte a.cut + bool_byte b.cut + bool_byte c.cut }) (point_by g)
 point_is g e f h = λ i. record {
   number = (e i).code + 65536 * (f i).code + 4294967296 * (h i).code;
   cuts = byte_of (e i).cut i + byte_of (f i).cut i + byte_of (h i).cut i;
@@ -36,13 +36,13 @@ module _ (f : Converter) (cs : List ℕ) where
       filled_all 0 (omega arith) h ∙ ap (λ (m : ℕ). tabulate m (code_at f cs)) e
 
   -- the cuts of one point more
-  pub cuts_more : (i : ℕ) {p : Triple} {next : ℕ} → p ≡ point_of f cs i → i + 1 ≡ next → count (3 * i) (cut_at f cs) + p.cuts ≡ count (3 * next) (cut_at f cs)
+  pub cuts_more : (i : ℕ) {p : Joined} {next : ℕ} → p ≡ point_of f cs i → i + 1 ≡ next → count (3 * i) (cut_at f cs) + p.cuts ≡ count (3 * next) (cut_at f cs)
   unfolding point_of
   cuts_more i e g =
       let at : (j : ℕ) → j < 3 → one_if (point_at f cs i j).cut ≡ one_if (cut_at f cs (3 * i + j)) = λ j h. ap (λ (x : Clamped). one_if x.cut) (converted_at_lem f cs i j h) in
       omega (
         arith,
-        ap (λ (x : Triple). x.cuts) e,
+        ap (λ (x : Joined). x.cuts) e,
         at 0 (omega arith) ∙ ap (λ (k : ℕ). one_if (cut_at f cs k)) (add-zero (3 * i)),
         at 1 (omega arith),
         at 2 (omega arith),

@@ -19,7 +19,7 @@ use Rattle.color_equations.specs.Line.{Converter}
 use Rattle.floats.specs.inner.Floor.{whole_of, clamped_by}
 use Rattle.color_equations.proofs.Points.{point_at, converted_at_lem}
 use Rattle.color_line.specs.declared.row.FloatRow.{FloatRow}
-use Rattle.color_line.specs.declared.row.FloatRows.{FloatRows}
+use Rattle.parameters.specs.declared.channels.Channels.{Channels}
 use Rattle.color_line.specs.inner.Rows.{row_code, rows_code, alike, code_at, number_of, point_of, short_of, stored_of}
 
 module _ (v : List ℕ) (i : ℕ) (xs : List ℕ) where
@@ -65,14 +65,14 @@ row_small : (r : FloatRow) (x y z : ℕ) → (row_code r x y z).code < 65536
 unfolding row_code clamped_by whole_of
 row_small r x y z = omega arith
 
-pub rows_small : (rows : FloatRows) (x y z j : ℕ) → (rows_code rows x y z j).code < 65536
+pub rows_small : (rows : Channels FloatRow) (x y z j : ℕ) → (rows_code rows x y z j).code < 65536
 unfolding rows_code
-rows_small rows x y z zero = row_small rows.first x y z
-rows_small rows x y z (suc zero) = row_small rows.second x y z
-rows_small rows x y z (suc (suc j)) = row_small rows.third x y z
+rows_small rows x y z zero = row_small rows.channel0 x y z
+rows_small rows x y z (suc zero) = row_small rows.channel1 x y z
+rows_small rows x y z (suc (suc j)) = row_small rows.channel2 x y z
 
 -- a turn: eight points of a line in numbers v, from point i on
-pub turn_filled : (rows : FloatRows) (cs : List ℕ) (i : ℕ) (out xs v ys : List ℕ) → 3 * i + 24 ≤ length out → v ≡ tabulate 8 (λ j. (point_of (rows_code rows) cs (i + j)).number) → Filled out (code_at (rows_code rows) cs) (3 * i) xs
+pub turn_filled : (rows : Channels FloatRow) (cs : List ℕ) (i : ℕ) (out xs v ys : List ℕ) → 3 * i + 24 ≤ length out → v ≡ tabulate 8 (λ j. (point_of (rows_code rows) cs (i + j)).number) → Filled out (code_at (rows_code rows) cs) (3 * i) xs
     → ys ≡ written (stored_of v i 7 xs) (3 * i + 21) (short_of (get_or v 7 0)) 3 → Filled out (code_at (rows_code rows) cs) (3 * (i + 8)) ys
 turn_filled rows cs i out xs v ys room e d f =
     let is : (j : ℕ) → j < 8 → get_or v j 0 ≡ (point_of (rows_code rows) cs (i + j)).number = λ j l. ap (λ (zs : List ℕ). get_or zs j 0) e ∙ get_or-tabulate 8 (λ m. (point_of (rows_code rows) cs (i + m)).number) j 0 l in

@@ -4,18 +4,12 @@ ghost use Rattle.lists.specs.Lists.{tabulate, count};
 ghost use Rattle.color_equations.specs.Line.{converted_of, converted_cuts};
 ghost use Rattle.color_line.specs.inner.Rows.{rows_code, cut_at, point_of};
 
-use crate::row::{FloatRows, Triple, point};
+use crate::row::{FloatRows, point};
 use crate::store::{store_eight, store3};
-
-// The numbers of eight points, and how many of their codes were cut.
-#[derive(Clone, Copy)]
-pub struct Eight {
-    pub numbers: [u64; 8],
-    pub cuts: u64,
-}
+use line::{EightJoined, Joined};
 
 // Point i of what comes out.
-fn point_at(rows: FloatRows, codes: &[u16], i: usize) -> Triple
+fn point_at(rows: FloatRows, codes: &[u16], i: usize) -> Joined
     requires { 3 * i + 3 ≤ length codes.now }
     ensures { result ≡ point_of (rows_code rows) codes.now i }
 {
@@ -24,21 +18,19 @@ fn point_at(rows: FloatRows, codes: &[u16], i: usize) -> Triple
 
 // Eight points from point i on. (No code is stored before all are worked out: the compiler does not know that the two lines lie
 // apart.)
-fn eight_at(rows: FloatRows, codes: &[u16], i: usize) -> Eight
+fn eight_at(rows: FloatRows, codes: &[u16], i: usize) -> EightJoined
     requires { 3 * i + 24 ≤ length codes.now }
     ensures numbers_value { result.numbers ≡ tabulate 8 (λ k. (point_of (rows_code rows) codes.now (i + k)).number) }
     ensures cuts_value { count (3 * i) (cut_at (rows_code rows) codes.now) + result.cuts ≡ count (3 * (i + 8)) (cut_at (rows_code rows) codes.now) }
 {
     let mut numbers = [0u64; 8];
     let mut cuts = 0u64;
-    let mut j = 0;
-    while j < 8 {
+    for j in 0..8 {
         let p = point_at(rows, codes, i + j);
         numbers[j] = p.number;
         cuts += p.cuts;
-        j += 1;
     }
-    Eight { numbers, cuts }
+    EightJoined { numbers, cuts }
 }
 
 // How many codes of the line that comes out were cut.
@@ -48,19 +40,16 @@ pub(crate) fn points(rows: FloatRows, codes: &[u16], out: &mut [u16], n: usize) 
     ensures value { result ≡ converted_cuts (rows_code rows) codes.now }
 {
     let mut cuts = 0u64;
-    let mut i = 0;
-    while i + 8 <= n {
-        let turn = eight_at(rows, codes, i);
-        let numbers = turn.numbers;
-        store_eight(numbers, out, i);
-        cuts += turn.cuts;
-        i += 8;
+    for turn in 0..n / 8 {
+        let i = 8 * turn;
+        let eight = eight_at(rows, codes, i);
+        store_eight(eight.numbers, out, i);
+        cuts += eight.cuts;
     }
-    while i < n {
+    for i in n / 8 * 8..n {
         let one = point_at(rows, codes, i);
         store3(out, 3 * i, one.number);
         cuts += one.cuts;
-        i += 1;
     }
     cuts
 }

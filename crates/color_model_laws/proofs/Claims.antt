@@ -23,7 +23,6 @@ use Rattle.scale.proofs.Scales.{ends}
 use Rattle.quantization.specs.Code.{code_of_value}
 use Rattle.quantization_laws.specs.Printed.{printed_unclamped, printed_low, printed_high}
 use Rattle.quantization_laws.proofs.Printed.{Kept, unclamped_printed, ends_printed, value_kept}
-use Rattle.line.specs.declared.ClampedAnswer.TheVariants.{Points}
 use Rattle.line.specs.Line.{codes_within}
 use Rattle.line.specs.Answer.{most_points}
 use Rattle.line.proofs.Answers.{fit}
@@ -37,6 +36,7 @@ use Rattle.color_equations.proofs.Whole.{luma-den, chroma-den, primary_den, gree
 use Rattle.color_model_laws.specs.Numbers.{ycbcr_number, rgb_number, outside_ends}
 use Rattle.color_model_laws.specs.Claims.{RowsRight, Inverts, InvertsBack, ConvertsClamped, ConvertsWithinEnds, CutsToAnEnd, ConvertsCuts, CountsEmptyLines, MarkedRight, EarlyRight, NarrowEndsRight, CutsRight}
 use Rattle.color_model_laws.specs.Marked.{marked, early, narrow_ends, cut_examples, given, stated}
+use Rattle.std.specs.Prelude.{Ok}
 use Rattle.color_model_laws.proofs.Inverse.{rgb_back, ycbcr_back}
 
 -- three weights above 0, and together they are 1: of each row, by one test of the table
@@ -137,7 +137,7 @@ cuts_to_an_end w n from to x y z j d = ((ycbcr_told w n from to x y z j d).ends.
 -- ---- lines
 
 module _ (f : Converter) (number : ℕ → ℕ → ℕ → ℕ → ℤ) (p n from to points : ℕ) (cs : List ℕ) (known : convertible p n from to ≡ true) (h : depth_known n ≡ true → (x y z j : ℕ) → Told (range_of to) n (f x y z j) (number x y z j)) where
-  counted : length cs ≡ 3 * points → points ≤ most_points → codes_within n cs ≡ true → conversion_answer f p n from to cs (3 * points) ≡ Points points (outside_ends number (range_of to) n cs)
+  counted : length cs ≡ 3 * points → points ≤ most_points → codes_within n cs ≡ true → conversion_answer f p n from to cs (3 * points) ≡ Ok (points, outside_ends number (range_of to) n cs)
   unfolding conversion_answer converted_cuts converted_at
   counted e most within =
       let b = primaries_known p && depth_known n in
@@ -146,7 +146,7 @@ module _ (f : Converter) (number : ℕ → ℕ → ℕ → ℕ → ℤ) (p n fro
       pass _ (ap not known)
       (pass _ (ap not r.0)
       (pass _ (ap not within)
-      (ap₂ Points r.1
+      (ap₂ (λ (a b : ℕ). Ok (a, b)) r.1
       (count_same (length cs) (λ k. (converted_at f cs k).cut)
       (λ k. is_cut (printed_low (range_of to) n) (printed_high (range_of to) n) (number (get_or cs (3 * (k / 3)) 0) (get_or cs (3 * (k / 3) + 1) 0) (get_or cs (3 * (k / 3) + 2) 0) (k % 3)))
       (λ k l. ap (λ (c : Clamped). c.cut) (h d (get_or cs (3 * (k / 3)) 0) (get_or cs (3 * (k / 3) + 1) 0) (get_or cs (3 * (k / 3) + 2) 0) (k % 3)).is)))))

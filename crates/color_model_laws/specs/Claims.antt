@@ -1,11 +1,10 @@
 -- Claims about the equations of document 01, "Between R'G'B' and Y'CbCr", as the entries' contracts cite them, about what comes out of a conversion and what of it is cut, about an empty line, and about the marked examples, points of range 3, points at the narrow ends and points that are cut. proofs/Claims.antt proves each. Assumes nothing.
-use Rattle.std.specs.Prelude.{ℕ, ◌+◌, ◌*◌, ◌≤◌, ◌<◌, true, ◌≡◌, List, [], map, ◌⊎◌, length}
+use Rattle.std.specs.Prelude.{ℕ, ◌+◌, ◌*◌, ◌≤◌, ◌<◌, true, ◌≡◌, List, [], map, ◌⊎◌, length, Ok}
 use Rattle.fractions.specs.declared.Clamped.{Clamped}
 use Rattle.fractions.specs.Fraction.{Fraction, Same, clamped}
 use Rattle.parameters.specs.declared.range.Range.{Range}
 use Rattle.parameters.specs.Parameters.{primaries_known, depth_known, range_of}
 use Rattle.quantization_laws.specs.Printed.{printed_low, printed_high, WithinEnds}
-use Rattle.line.specs.declared.ClampedAnswer.TheVariants.{Points}
 use Rattle.line.specs.Line.{codes_within}
 use Rattle.line.specs.Answer.{most_points}
 use Rattle.color_equations.specs.declared.weights.Weights.{Weights}
@@ -73,14 +72,14 @@ CutsToAnEnd = (w : Weights) (n : ℕ) (from to : Range) (x y z j : ℕ) → dept
 abbrev pub ConvertsCuts : Type 0
 ConvertsCuts =
     (primaries n from to points : ℕ) (cs : List ℕ) → convertible primaries n from to ≡ true → length cs ≡ 3 * points → points ≤ most_points → codes_within n cs ≡ true
-    → (to_ycbcr_answer primaries n from to cs (3 * points) ≡ Points points (outside_ends (ycbcr_number (weights_of primaries) n (range_of from) (range_of to)) (range_of to) n cs))
-    × (to_rgb_answer primaries n from to cs (3 * points) ≡ Points points (outside_ends (rgb_number (weights_of primaries) n (range_of from) (range_of to)) (range_of to) n cs))
+    → (to_ycbcr_answer primaries n from to cs (3 * points) ≡ Ok (points, outside_ends (ycbcr_number (weights_of primaries) n (range_of from) (range_of to)) (range_of to) n cs))
+    × (to_rgb_answer primaries n from to cs (3 * points) ≡ Ok (points, outside_ends (rgb_number (weights_of primaries) n (range_of from) (range_of to)) (range_of to) n cs))
 
 -- an empty line counts 0, and none is cut
 abbrev pub CountsEmptyLines : Type 0
 CountsEmptyLines =
     (primaries n from to : ℕ) → convertible primaries n from to ≡ true
-    → (to_ycbcr_answer primaries n from to [] 0 ≡ Points 0 0) × (to_rgb_answer primaries n from to [] 0 ≡ Points 0 0)
+    → (to_ycbcr_answer primaries n from to [] 0 ≡ Ok (0, 0)) × (to_rgb_answer primaries n from to [] 0 ≡ Ok (0, 0))
 
 -- the marked examples M1 to M12
 abbrev pub MarkedRight : Type 0

@@ -1,13 +1,11 @@
 -- Document 01, "Marked examples", M1 to M12, points of request A1's range 3, request A2's ends, and what request A4 counts as cut, worked out from the equations in exact fractions. Assumes nothing.
-use Rattle.std.specs.Prelude.{ℕ, ◌-◌, ◌^◌, true, false, List, [], ◌∷◌, pos, negsuc, Float}
+use Rattle.std.specs.Prelude.{ℕ, ◌-◌, ◌^◌, true, false, List, [], ◌∷◌, pos, negsuc, Float, Option, Some}
 use Rattle.std.specs.Float.{inf, fin}
 use Rattle.parameters.specs.declared.range.Range.{Range}
 use Rattle.parameters.specs.declared.range.Range.TheVariants.{Narrow, Full, LegacyFull}
 use Rattle.parameters.specs.declared.kind.Kind.{Kind}
 use Rattle.parameters.specs.declared.kind.Kind.TheVariants.{Brightness, Difference}
 use Rattle.fractions.specs.declared.Clamped.{Clamped}
-use Rattle.quantization.specs.declared.code.Coded.{Coded}
-use Rattle.quantization.specs.declared.code.Coded.TheVariants.{Code}
 use Rattle.scale.specs.Scale.{scale_of}
 use Rattle.quantization.specs.Code.{code_of_value, code_of}
 use Rattle.color_equations.specs.Weights.{weights_of}
@@ -139,7 +137,7 @@ cut_examples =
 
 -- an example's answer
 pub data Answer : Type 0 where
-  one : Coded → Answer
+  one : Option Clamped → Answer
   three : Clamped → Clamped → Clamped → Answer
 
 -- what the definitions give, and what is stated
@@ -150,6 +148,6 @@ given (to_ycbcr from to n p (codes x y z) a b c) = let f = ycbcr_of (weights_of 
 given (to_rgb from to n p (codes x y z) a b c) = let f = rgb_of (weights_of p) n from to x y z in three (f 0) (f 1) (f 2)
 
 unfoldable pub stated : Example → Answer
-stated (float r n k v code) = one (Code code)
+stated (float r n k v code) = one (Some code)
 stated (to_ycbcr from to n p point a b c) = three a b c
 stated (to_rgb from to n p point a b c) = three a b c

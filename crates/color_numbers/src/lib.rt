@@ -6,8 +6,8 @@ ghost use Rattle.std.specs.Prelude.{◌≡◌};
 ghost use Rattle.color_numbers.specs.inner.Numbers.{known_numbers};
 
 use crate::green::green_terms;
-use color_equations::{KnownWeights, Weights};
-use parameters::{Depth, KnownDepth, KnownRange, Range};
+use color_equations::Weights;
+use parameters::{Depth, Range};
 
 mod green;
 mod spread;
@@ -25,34 +25,19 @@ pub struct Numbers {
     pub to: Range,
 }
 
-// What numbers stand for, or that the paper has no such conversion.
-#[derive(Clone, Copy)]
-pub enum KnownNumbers {
-    Known(Numbers),
-    Unknown,
-}
-
-// The numbers of a conversion.
-pub fn numbers_of(primaries: u8, depth: u8, range_in: u8, range_out: u8) -> KnownNumbers
+// The numbers of a conversion, where the paper has it.
+pub fn numbers_of(primaries: u8, depth: u8, range_in: u8, range_out: u8) -> Option<Numbers>
     ensures { result ≡ known_numbers primaries depth range_in range_out }
 {
-    let KnownWeights::Known(weights) = Weights::of(primaries) else {
-        return KnownNumbers::Unknown;
-    };
-    let KnownDepth::Known(of_depth) = Depth::of(depth) else {
-        return KnownNumbers::Unknown;
-    };
-    let KnownRange::Known(from) = Range::of(range_in) else {
-        return KnownNumbers::Unknown;
-    };
-    let KnownRange::Known(to) = Range::of(range_out) else {
-        return KnownNumbers::Unknown;
-    };
+    let weights = Weights::of(primaries)?;
+    let depth = Depth::of(depth)?;
+    let from = Range::of(range_in)?;
+    let to = Range::of(range_out)?;
     let green = green_terms(primaries);
-    KnownNumbers::Known(Numbers {
+    Some(Numbers {
         weights,
         green,
-        depth: of_depth,
+        depth,
         from,
         to,
     })

@@ -5,7 +5,7 @@ ghost use Rattle.std.specs.Prelude.{◌≡◌};
 ghost use Rattle.color_rows.specs.inner.Known.{known_to_ycbcr, known_to_rgb};
 
 use color_line::FloatRows;
-use color_numbers::{KnownNumbers, numbers_of};
+use color_numbers::numbers_of;
 
 mod green;
 mod linear;
@@ -19,41 +19,24 @@ pub struct Conversion {
     pub top: u16,
 }
 
-// The conversion of the paper's numbers, or that the paper has none.
-#[derive(Clone, Copy)]
-pub enum KnownConversion {
-    Known(Conversion),
-    Unknown,
-}
-
 // R', G', B' to Y', Cb, Cr.
-pub fn to_ycbcr(primaries: u8, depth: u8, range_in: u8, range_out: u8) -> KnownConversion
+pub fn to_ycbcr(primaries: u8, depth: u8, range_in: u8, range_out: u8) -> Option<Conversion>
     ensures { result ≡ known_to_ycbcr primaries depth range_in range_out }
 {
-    match numbers_of(primaries, depth, range_in, range_out) {
-        KnownNumbers::Known(numbers) => {
-            let bits = numbers.depth;
-            KnownConversion::Known(Conversion {
-                rows: ycbcr::rows(numbers),
-                top: bits.top(),
-            })
-        }
-        KnownNumbers::Unknown => KnownConversion::Unknown,
-    }
+    let numbers = numbers_of(primaries, depth, range_in, range_out)?;
+    Some(Conversion {
+        rows: ycbcr::rows(numbers),
+        top: numbers.depth.top(),
+    })
 }
 
 // Y', Cb, Cr to R', G', B'.
-pub fn to_rgb(primaries: u8, depth: u8, range_in: u8, range_out: u8) -> KnownConversion
+pub fn to_rgb(primaries: u8, depth: u8, range_in: u8, range_out: u8) -> Option<Conversion>
     ensures { result ≡ known_to_rgb primaries depth range_in range_out }
 {
-    match numbers_of(primaries, depth, range_in, range_out) {
-        KnownNumbers::Known(numbers) => {
-            let bits = numbers.depth;
-            KnownConversion::Known(Conversion {
-                rows: rgb::rows(numbers),
-                top: bits.top(),
-            })
-        }
-        KnownNumbers::Unknown => KnownConversion::Unknown,
-    }
+    let numbers = numbers_of(primaries, depth, range_in, range_out)?;
+    Some(Conversion {
+        rows: rgb::rows(numbers),
+        top: numbers.depth.top(),
+    })
 }

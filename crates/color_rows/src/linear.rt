@@ -4,7 +4,7 @@ ghost use Rattle.color_rows.specs.inner.Rows.{coded_of, difference_of, floats_of
 ghost use Rattle.color_rows.specs.inner.Sizes.{Small};
 
 use color_line::FloatRow;
-use floats::Ends;
+use floats::{Ends, FloatEnds};
 use scale::Scale;
 
 // plus0 x + plus1 y + plus2 z + plus - (minus0 x + minus1 y + minus2 z + minus).
@@ -73,14 +73,13 @@ fn floats(row: Row) -> FloatRow
     ensures { result ≡ floats_of row }
 {
     let sum = row.sum;
-    let ends = row.ends;
     FloatRow {
         first: difference(sum.plus0, sum.minus0),
         second: difference(sum.plus1, sum.minus1),
         third: difference(sum.plus2, sum.minus2),
         more: difference(sum.plus + 4096 * row.over, sum.minus),
         over: row.over as f64,
-        ends: ends.floats(),
+        ends: FloatEnds::from(row.ends),
     }
 }
 

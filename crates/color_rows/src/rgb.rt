@@ -37,7 +37,8 @@ fn red(w: Weights, from: Spread) -> Value
     }
 }
 
-// B' = Y' + 2 (1 - KB) Cb.
+// B' = Y' + 2 (1 - KB) Cb. (Not one function with R': the place of the coefficient differs, and as an argument would hide the
+// equation.)
 fn blue(w: Weights, from: Spread) -> Value
     requires { SmallWeights w × SmallSpread from }
     ensures { result ≡ blue_value w from }
@@ -122,8 +123,8 @@ pub(crate) fn rows(numbers: Numbers) -> FloatRows
     let spread = spread_of(from, depth);
     let out = Scale::of(to, depth, Kind::Brightness);
     FloatRows {
-        first: float_row(red(w, spread), out.span as u64, out),
-        second: green_row(numbers, spread, out),
-        third: float_row(blue(w, spread), out.span as u64, out),
+        channel0: float_row(red(w, spread), out.span as u64, out),
+        channel1: green_row(numbers, spread, out),
+        channel2: float_row(blue(w, spread), out.span as u64, out),
     }
 }

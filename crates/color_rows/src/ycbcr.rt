@@ -54,7 +54,8 @@ fn cb(w: Weights, from: Scale) -> Value
     }
 }
 
-// Cr = (R' - Y') / (2 (1 - KR)).
+// Cr = (R' - Y') / (2 (1 - KR)). (Not one function with Cb: the places of the coefficients differ, and as arguments would hide
+// the equation.)
 fn cr(w: Weights, from: Scale) -> Value
     requires { SmallWeights w }
     ensures { result ≡ cr_value w from }
@@ -89,8 +90,8 @@ pub(crate) fn rows(numbers: Numbers) -> FloatRows
     let y = Scale::of(to, depth, Kind::Brightness);
     let c = Scale::of(to, depth, Kind::Difference);
     FloatRows {
-        first: float_row(luma(w, rgb), y.span as u64, y),
-        second: float_row(cb(w, rgb), c.span as u64, c),
-        third: float_row(cr(w, rgb), c.span as u64, c),
+        channel0: float_row(luma(w, rgb), y.span as u64, y),
+        channel1: float_row(cb(w, rgb), c.span as u64, c),
+        channel2: float_row(cr(w, rgb), c.span as u64, c),
     }
 }

@@ -13,8 +13,8 @@ use Rattle.lists.proofs.Counts.{count_same}
 use Rattle.lists.proofs.Tests.{and_left, and_right}
 use Rattle.fractions.specs.declared.Clamped.{Clamped}
 use Rattle.color_equations.specs.Line.{Converter, converted_at, converted_of, converted_cuts}
+use Rattle.std.specs.Prelude.{Some, None}
 use Rattle.color_rows.specs.declared.Conversion.{Conversion}
-use Rattle.color_rows.specs.declared.KnownConversion.TheVariants.{Known, Unknown}
 
 -- a code of a line, and what stands past its end, is at most the top
 pub code_le : (top : ℕ) (cs : List ℕ) → every (λ c. leb c top) cs ≡ true → (k : ℕ) → get_or cs k 0 ≤ top
@@ -39,10 +39,10 @@ module _ (f g : Converter) (top : ℕ) (cs : List ℕ) (e : every (λ c. leb c t
   cuts_same h = count_same (length cs) (λ k. (converted_at f cs k).cut) (λ k. (converted_at g cs k).cut) (λ k l. at_same (λ x. x.cut) h k)
 
 -- ---- a conversion that is known
-pub conversion_told : (b : Bool) (k : Conversion) {m : Conversion} → cond b (Known k) Unknown ≡ Known m → (b ≡ true) × (m ≡ k)
+pub conversion_told : (b : Bool) (k : Conversion) {m : Conversion} → cond b (Some k) None ≡ Some m → (b ≡ true) × (m ≡ k)
 conversion_told true k e = (refl, cc)
 conversion_told false k e = let z : ◌≡◌ {A = ℕ} 0 1 = cc in absurd (omega arith)
 
-pub conversion_unknown : (b : Bool) (k : Conversion) → cond b (Known k) Unknown ≡ Unknown → b ≡ false
+pub conversion_unknown : (b : Bool) (k : Conversion) → cond b (Some k) None ≡ None → b ≡ false
 conversion_unknown true k e = let z : ◌≡◌ {A = ℕ} 0 1 = cc in absurd (omega arith)
 conversion_unknown false k e = refl

@@ -8,8 +8,6 @@ use borrow.Author.Tests.{eq-eqb}
 use lib.ListN.{length, replicate, length-append}
 use lib.Seq.{take-append_seam, drop-append_seam}
 use Rattle.card_table.specs.Table.{card_size}
-use Rattle.refusal.specs.declared.Written.{Written}
-use Rattle.refusal.specs.declared.Written.TheVariants.{Done, Refused}
 use Rattle.card_writer.specs.Writing.{write_answer}
 use Rattle.card_laws.proofs.Claims.{writes_no_other}
 use Rattle.custody_book.specs.History.{Rewrite}
@@ -17,6 +15,8 @@ use Rattle.custody_book.specs.Meaning.{Meaning}
 use Rattle.custody_book.proofs.Claims.{agrees, means}
 use Rattle.custody_rewrites.specs.Lists.{sum, rewrites_of, fitting}
 use Rattle.custody.specs.Replay.{asked_by, then_fitting, beginning}
+use Rattle.std.specs.Prelude.{Result, Ok, Err, ⊤}
+use Rattle.refusal.specs.declared.Refusal.{Refusal}
 use Rattle.custody.specs.Claims.{editions_in, lengths_in, outputs_in, AsksAnyList, FitsAnyList, ReplaysAsMeant}
 
 pub asks_any_list : AsksAnyList
@@ -45,9 +45,9 @@ fits_any_list rs =
     && eq-eqb (sum (lengths_in rs)) (length (outputs_in rs)) (all-bytes rs) i
 
 -- a replay that begins has written the first card
-begun : (w : Written) (fits : Bool) → then_fitting w fits ≡ Done → w ≡ Done
-begun (Refused k) fits h = h
-begun Done fits h = refl
+begun : (w : Result ⊤ Refusal) (fits : Bool) → then_fitting w fits ≡ (Ok tt) → w ≡ (Ok tt)
+begun (Err k) fits h = h
+begun (Ok tt) fits h = refl
 
 pub replays_as_meant : ReplaysAsMeant
 unfolding beginning

@@ -1,3 +1,2 @@
-mod Last
 pub mod Whole
 pub mod Claims

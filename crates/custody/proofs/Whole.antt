@@ -8,8 +8,6 @@ use lib.ListN.{length}
 use Rattle.lists.proofs.Tests.{pass, stop}
 use Rattle.card_table.specs.Table.{card_size}
 use Rattle.card_reader.specs.Reading.{read_card}
-use Rattle.refusal.specs.declared.Written.{Written}
-use Rattle.refusal.specs.declared.Written.TheVariants.{Done, Refused}
 use Rattle.card_writer.specs.Writing.{write_answer, write_output}
 use Rattle.card.specs.Rewriting.{rewrite_answer, rewrite_output}
 use Rattle.card_laws.proofs.Claims.{writes_no_other}
@@ -17,11 +15,14 @@ use Rattle.custody_book.specs.History.{Rewrite, Trace, History}
 use Rattle.custody_book.specs.Calls.{then_decode, then_values, card_after, calls_from, calls}
 use Rattle.custody_book.specs.Meaning.{reading_of, decoding_of, values_after}
 use Rattle.custody_book.proofs.Claims.{agrees}
+use Rattle.card_table.specs.declared.facts.Facts.{Facts}
 use Rattle.custody.specs.declared.Replayed.{Replayed}
-use Rattle.custody.specs.declared.Replayed.TheVariants.{Ended, NotBegun}
 use Rattle.custody_rewrites.specs.Lists.{number_of, rewrites_of, fitting}
 use Rattle.custody_rewrites.specs.Rewriting.{card_after_all, outputs_after_all, answers_after_all}
 use Rattle.custody.specs.Lists.{answers_of, outputs_of, card_of}
+use Rattle.std.specs.Prelude.{Result, Ok, Err, ⊤}
+use Rattle.refusal.specs.declared.Refusal.{Refusal}
+use Rattle.refusal.specs.declared.Refusal.TheVariants.{WrongLineOrOutput}
 use Rattle.custody.specs.Replay.{Given, asked_by, then_fitting, beginning, history, replay_answer, replay_card, replay_outputs, replay_answers, replay_values}
 
 -- ---- the calls' trace, part by part
@@ -56,8 +57,11 @@ module _ (last : ℕ) (packed : List ℕ) (values : List Float) where
 
 -- ---- what a replay answers and leaves
 
+abbrev pub ended_by : Result Facts Refusal → Result ℕ Refusal → Replayed
+ended_by reading decoding = record { reading = reading; decoding = decoding }
+
 module _ (g : Given) where
-  abbrev pub Replays : Replayed → (card outputs answers : List ℕ) → List Float → Type 0
+  abbrev pub Replays : Result Replayed Refusal → (card outputs answers : List ℕ) → List Float → Type 0
   Replays r card outputs answers values =
       (r ≡ replay_answer g)
       × (card ≡ replay_card g)
@@ -66,9 +70,9 @@ module _ (g : Given) where
       × (values ≡ replay_values g)
 
   -- it did not begin
-  not_begun : (k : ℕ) → beginning g ≡ Refused k → Replays (NotBegun k) g.card g.outputs g.answers g.values
+  not_begun : (refusal : Refusal) → beginning g ≡ Err refusal → Replays (Err refusal) g.card g.outputs g.answers g.values
   unfolding replay_answer replay_card replay_outputs replay_answers replay_values
-  not_begun k h = rw h (refl, refl, refl, refl, refl)
+  not_begun refusal h = rw h (refl, refl, refl, refl, refl)
 
   abbrev fits : Bool
   fits = fitting (length g.card) g.editions g.lengths (length g.outputs) (length g.answers)
@@ -84,16 +88,16 @@ module _ (g : Given) where
       × (outputs ≡ cond fits (outputs_after_all start rs) g.outputs)
       × (answers ≡ cond fits (answers_after_all start rs) g.answers)
 
-  pub not_written : (k : ℕ) → write_answer g.first g.facts card_size ≡ Refused k → Replays (NotBegun k) g.card g.outputs g.answers g.values
+  pub not_written : {answer : Result Replayed Refusal} (refusal : Refusal) → write_answer g.first g.facts card_size ≡ Err refusal → answer ≡ Err refusal → Replays answer g.card g.outputs g.answers g.values
   unfolding beginning
-  not_written k h = not_begun k (ap (λ (w : Written). then_fitting w fits) h)
+  not_written refusal h q = let n = not_begun refusal (ap (λ (w : Result ⊤ Refusal). then_fitting w fits) h) in (q ∙ n.0, n.1, n.2, n.3, n.4)
 
-  module _ (w : write_answer g.first g.facts card_size ≡ Done) (start : List ℕ) {card outputs answers : List ℕ} {r : Bool} (e : Rewritten start r card outputs answers) where
-    pub misfit : r ≡ false → Replays (NotBegun 13) card outputs answers g.values
+  module _ (w : write_answer g.first g.facts card_size ≡ (Ok tt)) (start : List ℕ) {card outputs answers : List ℕ} {r : Bool} (e : Rewritten start r card outputs answers) where
+    pub misfit : r ≡ false → Replays (Err WrongLineOrOutput) card outputs answers g.values
     unfolding beginning
     misfit h =
         let n = sym e.0 ∙ h in
-        let b = not_begun 13 (ap₂ then_fitting w n) in
+        let b = not_begun WrongLineOrOutput (ap₂ then_fitting w n) in
         (b.0, e.1 ∙ pass (card_after_all start rs) n b.1, e.2 ∙ pass (outputs_after_all start rs) n b.2, e.3 ∙ pass (answers_after_all start rs) n b.3, b.4)
 
     -- it began, with the first card written over `before`
@@ -104,7 +108,7 @@ module _ (g : Given) where
       fit : fits ≡ true
       fit = sym e.0 ∙ h
 
-      begins : beginning g ≡ Done
+      begins : beginning g ≡ (Ok tt)
       unfolding beginning
       begins = ap₂ then_fitting w fit
 
@@ -120,7 +124,7 @@ module _ (g : Given) where
       trace_is = ap (λ (h : History). h.trace) agree
 
       ended : (card : List ℕ) → card ≡ card_after_all first rs
-          → Replays (Ended (read_card card g.last) (then_decode (read_card card g.last) (length g.packed) (length g.values)))
+          → Replays (Ok (ended_by (read_card card g.last) (then_decode (read_card card g.last) (length g.packed) (length g.values))))
           card (outputs_after_all first rs) (answers_after_all first rs) (then_values (read_card card g.last) g.packed g.values)
       unfolding replay_answer replay_card replay_outputs replay_answers replay_values
       ended card h =
@@ -128,9 +132,9 @@ module _ (g : Given) where
           let p = g.packed in
           let v = g.values in
           rw begins (
-            (λ i. Ended (read_card (h i) l) (then_decode (read_card (h i) l) (length p) (length v)))
-                ∙ (λ i. Ended (reading_of_lem l p v first rs i) (decoding_of_lem l p v first rs i))
-                ∙ ap (λ (s : Trace). Ended (reading_of s) (decoding_of s)) trace_is,
+            (λ i. Ok (ended_by (read_card (h i) l) (then_decode (read_card (h i) l) (length p) (length v))))
+                ∙ (λ i. Ok (ended_by (reading_of_lem l p v first rs i) (decoding_of_lem l p v first rs i)))
+                ∙ ap (λ (s : Trace). Ok (ended_by (reading_of s) (decoding_of s))) trace_is,
             h ∙ card_of_lem l p v first rs ∙ (λ i. card_of (first_is i) (trace_is i)),
             outputs_of_lem l p v first rs ∙ ap outputs_of trace_is,
             answers_of_lem l p v first rs ∙ ap answers_of trace_is,
@@ -138,11 +142,11 @@ module _ (g : Given) where
           )
 
       pub replays : (answer : Replayed) (values : List Float) → start ≡ first
-          → (answer ≡ Ended (read_card card g.last) (then_decode (read_card card g.last) (length g.packed) (length g.values))) × (values ≡ then_values (read_card card g.last) g.packed g.values)
-          → Replays answer card outputs answers values
+          → (answer ≡ ended_by (read_card card g.last) (then_decode (read_card card g.last) (length g.packed) (length g.values))) × (values ≡ then_values (read_card card g.last) g.packed g.values)
+          → Replays (Ok answer) card outputs answers values
       replays answer values s d =
           let c = ended card (e.1 ∙ stop g.card fit ∙ ap (λ (b : List ℕ). card_after_all b rs) s) in (
-            d.0 ∙ c.0,
+            ap Ok d.0 ∙ c.0,
             c.1,
             e.2 ∙ stop g.outputs fit ∙ ap (λ (b : List ℕ). outputs_after_all b rs) s ∙ c.2,
             e.3 ∙ stop g.answers fit ∙ ap (λ (b : List ℕ). answers_after_all b rs) s ∙ c.3,

@@ -1,7 +1,6 @@
 -- What a replay amounts to; proofs/Claims.antt proves each claim. Assumes nothing.
-use Rattle.std.specs.Prelude.{ℕ, true, ◌≡◌, List, [], ◌∷◌, ◌++◌, length}
+use Rattle.std.specs.Prelude.{ℕ, true, ◌≡◌, List, [], ◌∷◌, ◌++◌, length, Ok}
 use Rattle.card_table.specs.Table.{card_size}
-use Rattle.refusal.specs.declared.Written.TheVariants.{Done}
 use Rattle.custody_book.specs.History.{Rewrite}
 use Rattle.custody_book.specs.Meaning.{Meaning}
 use Rattle.custody_rewrites.specs.Lists.{rewrites_of, fitting}
@@ -33,4 +32,4 @@ FitsAnyList = (rs : List Rewrite) → fitting card_size (editions_in rs) (length
 
 -- what a replay that begins leaves to be seen is what demand 3 asks for
 abbrev pub ReplaysAsMeant : Type 0
-ReplaysAsMeant = (g : Given) → beginning g ≡ Done → Meaning (asked_by g) (history g)
+ReplaysAsMeant = (g : Given) → beginning g ≡ (Ok tt) → Meaning (asked_by g) (history g)

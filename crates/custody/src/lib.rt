@@ -7,41 +7,43 @@ ghost use Rattle.card_reader.specs.Reading.{read_card};
 ghost use Rattle.custody_book.specs.Calls.{then_decode, then_values};
 ghost use Rattle.custody.specs.Replay.{Given, replay_answer, replay_card, replay_outputs, replay_answers, replay_values};
 
-use card::{Card, CardReading, Facts};
+use card::{Card, Facts};
 use custody_rewrites::rewrite_all;
-use line::LineAnswer;
-use refusal::Written;
+use refusal::Refusal;
 
-// What a replay answers.
+// What a replay that began ends with.
 #[derive(Clone, Copy)]
-pub enum Replayed {
-    // The last reading, and what decoding by its layout answered: the reading's own number where that was refused.
-    Ended {
-        reading: CardReading,
-        decoding: LineAnswer,
-    },
-    // Nothing was done: the refusal's number.
-    NotBegun(u8),
+pub struct Replayed {
+    pub reading: Result<Facts, Refusal>,
+
+    // What decoding by the layout that was read answered: the reading's own refusal where that was refused.
+    pub decoding: Result<usize, Refusal>,
+}
+
+// Decodes by the layout that a reading shows. Refused: as the reading was, and then as decoding is; `values` is then as it was.
+fn decode_shown(
+    reading: Result<Facts, Refusal>,
+    packed: &[u8],
+    values: &mut [f32],
+) -> Result<usize, Refusal>
+    ensures answer { result ≡ then_decode reading (length packed.now) (length values.old) }
+    ensures memory { values.new ≡ then_values reading packed.now values.old }
+{
+    let facts = reading?;
+    decoding::decode_line(facts.layout, packed, values)
 }
 
 // The last reading, and the decoding by the layout that it shows.
 fn read_last(card: &[u8], last: u8, packed: &[u8], values: &mut [f32]) -> Replayed
-    ensures { (result ≡ Replayed.Ended (read_card card.now last) (then_decode (read_card card.now last) (length packed.now) (length values.old)))
-        × (values.new ≡ then_values (read_card card.now last) packed.now values.old) }
+    ensures answer { result ≡ record {
+      reading = read_card card.now last;
+      decoding = then_decode (read_card card.now last) (length packed.now) (length values.old);
+    } }
+    ensures memory { values.new ≡ then_values (read_card card.now last) packed.now values.old }
 {
-    match card::read(card, last) {
-        CardReading::Refused(number) => Replayed::Ended {
-            reading: CardReading::Refused(number),
-            decoding: LineAnswer::Refused(number),
-        },
-        CardReading::Shown(facts) => {
-            let answer = decoding::decode_line(facts.layout, packed, values);
-            Replayed::Ended {
-                reading: CardReading::Shown(facts),
-                decoding: answer,
-            }
-        }
-    }
+    let reading = card::read(card, last);
+    let decoding = decode_shown(reading, packed, values);
+    Replayed { reading, decoding }
 }
 
 // Writes a card from the facts at the first edition; rewrites it at each edition, into an output of so many bytes, one after
@@ -59,7 +61,7 @@ pub fn replay(
     last: u8,
     packed: &[u8],
     values: &mut [f32],
-) -> Replayed
+) -> Result<Replayed, Refusal>
     ensures { (let g : Given = record {
       first = first;
       facts = facts;
@@ -79,13 +81,9 @@ pub fn replay(
         × (values.new ≡ replay_values g)) }
 {
     let mut start = [0u8; Card::SIZE];
-    match card::write(first, facts, &mut start) {
-        Written::Refused(number) => Replayed::NotBegun(number),
-        Written::Done => {
-            if !rewrite_all(&start, card, editions, lengths, outputs, answers) {
-                return Replayed::NotBegun(refusal::WRONG_LINE_OR_OUTPUT);
-            }
-            read_last(card, last, packed, values)
-        }
+    card::write(first, facts, &mut start)?;
+    if !rewrite_all(&start, card, editions, lengths, outputs, answers) {
+        return Err(Refusal::WrongLineOrOutput);
     }
+    Ok(read_last(card, last, packed, values))
 }

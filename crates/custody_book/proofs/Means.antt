@@ -15,7 +15,6 @@ use Rattle.layout.specs.declared.Layout.{Layout}
 use Rattle.parameters.specs.Parameters.{kind_of}
 use Rattle.layout.specs.Layout.{grouped, points_each, whole_groups, valid_layout}
 use Rattle.quantization.specs.Answer.{named}
-use Rattle.line.specs.declared.LineAnswer.TheVariants.{Points, Refused as LineRefused}
 use Rattle.line.specs.Line.{points_in, bytes_for}
 use Rattle.line_values.specs.Decode.{values_of}
 use Rattle.decoding_laws.proofs.Claims.{decodes_each_code}
@@ -24,20 +23,18 @@ use Rattle.card_edition.specs.Edition.{edition_known, has_access}
 use Rattle.card_table.specs.Facts.{least_edition, with_access}
 use Rattle.card_edition.specs.Access.{closed}
 use Rattle.card_table.specs.Table.{card_size}
-use Rattle.card_reader.specs.declared.CardReading.{CardReading}
-use Rattle.card_reader.specs.declared.CardReading.TheVariants.{Shown, Refused as NotShown}
 use Rattle.card_reader.proofs.Shown.{passed, same_facts}
-use Rattle.refusal.specs.declared.Written.{Written}
-use Rattle.refusal.specs.declared.Written.TheVariants.{Done, Refused}
-use Rattle.refusal.specs.Written.{accepted}
 use Rattle.custody_book.specs.History.{Rewrite, Asked, Trace}
 use Rattle.custody_book.specs.Book.{Book, start_of, book_answer, book_after, captured, points_of, decodable, book_decoding, book_values, book_from, book}
+use Rattle.std.specs.Prelude.{Result, Ok, Err, is_ok, ⊤}
+use Rattle.refusal.specs.declared.Refusal.{Refusal}
+use Rattle.refusal.specs.declared.Refusal.TheVariants.{LaterEdition, UnknownEdition, WrongLineOrOutput}
 use Rattle.custody_book.specs.Meaning.{reading_of, decoding_of, values_after, refused, not_shown, RewriteRight, EachRight, EachRight.none, EachRight.each, accepted_at, ReadingRight, DecodingRight, Meaning}
 
 -- ---- tests
 
 -- refused, by the three tests of a rewrite
-refused-by : (k l m : Bool) → refused (cond (not k) (Refused 7) (cond l (Refused 8) (cond (not m) (Refused 13) Done))) ≡ not (k && not l && m)
+refused-by : (k l m : Bool) → refused (cond (not k) (Err UnknownEdition) (cond l (Err LaterEdition) (cond (not m) (Err WrongLineOrOutput) (Ok tt)))) ≡ not (k && not l && m)
 refused-by false l m = refl
 refused-by true true m = refl
 refused-by true false false = refl
@@ -53,7 +50,7 @@ lost true true m h = refl
 lost true false m h = ap not h
 
 apart : {A : Type 0} → ◌≡◌ {A = Bool} true false → A
-apart h = let z : ◌≡◌ {A = ℕ} 0 1 = cc in absurd (omega arith)
+apart h = cc
 
 -- ---- a rewrite
 
@@ -70,8 +67,8 @@ module _ (f : Facts) (b : Book) (r : Rewrite) where
   refused_is : refused (book_answer f r) ≡ not (known && not under && long)
   refused_is = refused-by known under long
 
-  rewrite_right : (w : Written) → book_answer f r ≡ w
-      → RewriteRight f r b.card w (new_or_kept (accepted w) (book_after w f b r.edition).card r.output) (book_after w f b r.edition).card
+  rewrite_right : (w : Result ⊤ Refusal) → book_answer f r ≡ w
+      → RewriteRight f r b.card w (new_or_kept (is_ok w) (book_after w f b r.edition).card r.output) (book_after w f b r.edition).card
   rewrite_right w h =
       record {
         exactly = λ k m. ap refused (sym h) ∙ refused_is ∙ (λ i. not (k i && not under && eq-eqb (length r.output) card_size m i)) ∙ only under;
@@ -80,13 +77,13 @@ module _ (f : Facts) (b : Book) (r : Rewrite) where
         taken = taken w;
       }
     where
-      unchanged : (w : Written) → refused w ≡ true → (new_or_kept (accepted w) (book_after w f b r.edition).card r.output ≡ r.output) × ((book_after w f b r.edition).card ≡ b.card)
-      unchanged Done p = apart (sym p)
-      unchanged (Refused n) p = (refl, refl)
+      unchanged : (w : Result ⊤ Refusal) → refused w ≡ true → (new_or_kept (is_ok w) (book_after w f b r.edition).card r.output ≡ r.output) × ((book_after w f b r.edition).card ≡ b.card)
+      unchanged (Ok tt) p = apart (sym p)
+      unchanged (Err n) p = (refl, refl)
 
-      taken : (w : Written) → refused w ≡ false → (book_after w f b r.edition).card ≡ new_or_kept (accepted w) (book_after w f b r.edition).card r.output
-      taken Done p = refl
-      taken (Refused n) p = apart p
+      taken : (w : Result ⊤ Refusal) → refused w ≡ false → (book_after w f b r.edition).card ≡ new_or_kept (is_ok w) (book_after w f b r.edition).card r.output
+      taken (Ok tt) p = refl
+      taken (Err n) p = apart p
 
 each_right : (f : Facts) (b : Book) (rs : List Rewrite) (last : ℕ) (packed : List ℕ) (values : List Float) → EachRight f b.card rs (book_from f b rs last packed values)
 each_right f b [] last packed values = none
@@ -96,11 +93,11 @@ each_right f b (r ∷ rs) last packed values =
 -- ---- the last reading
 
 -- what it shows of the first facts, where `ok` says whether every accepted rewrite was at an edition that has access
-abbrev last_shown : Facts → ℕ → Bool → ℕ → CardReading
+abbrev last_shown : Facts → ℕ → Bool → ℕ → Result Facts Refusal
 last_shown f access ok last =
-    cond (not (edition_known last)) (NotShown 7)
-    (cond (ltb last (least_edition f)) (NotShown 8)
-    (Shown (with_access f (cond (ok && has_access last) access closed))))
+    cond (not (edition_known last)) (Err UnknownEdition)
+    (cond (ltb last (least_edition f)) (Err LaterEdition)
+    (Ok (with_access f (cond (ok && has_access last) access closed))))
 
 same : {A : Type 0} (t : Bool) (x : A) → cond t x x ≡ x
 same true x = refl
@@ -119,15 +116,15 @@ reading_from : (f : Facts) (b : Book) (rs : List Rewrite) (last : ℕ) (packed :
 reading_from f b [] last packed values = refl
 reading_from f b (r ∷ rs) last packed values = go (book_answer f r) (λ b'. reading_from f b' rs last packed values)
   where
-    go : (w : Written)
+    go : (w : Result ⊤ Refusal)
         → ((b' : Book) → reading_of (book_from f b' rs last packed values) ≡ last_shown f b'.access (accepted_at has_access rs (book_from f b' rs last packed values)) last)
         → reading_of (book_from f (book_after w f b r.edition) rs last packed values)
         ≡ last_shown f b.access ((refused w || has_access r.edition) && accepted_at has_access rs (book_from f (book_after w f b r.edition) rs last packed values)) last
-    go (Refused n) ih = ih b
-    go Done ih = ih (book_after Done f b r.edition) ∙ kept_or_shut f b.access (has_access r.edition) (accepted_at has_access rs (book_from f (book_after Done f b r.edition) rs last packed values)) last
+    go (Err n) ih = ih b
+    go (Ok tt) ih = ih (book_after (Ok tt) f b r.edition) ∙ kept_or_shut f b.access (has_access r.edition) (accepted_at has_access rs (book_from f (book_after (Ok tt) f b r.edition) rs last packed values)) last
 
 -- refused, by its two tests
-not_shown-by : (k l : Bool) (g : Facts) → not_shown (cond (not k) (NotShown 7) (cond l (NotShown 8) (Shown g))) ≡ not (k && not l)
+not_shown-by : (k l : Bool) (g : Facts) → not_shown (cond (not k) (Err UnknownEdition) (cond l (Err LaterEdition) (Ok g))) ≡ not (k && not l)
 not_shown-by false l g = refl
 not_shown-by true true g = refl
 not_shown-by true false g = refl
@@ -187,12 +184,12 @@ module _ (a : Asked) where
   refused_as : not_shown (reading_of s) ≡ not (edition_known a.last && not least)
   refused_as = ap not_shown reading_is ∙ not_shown-by (edition_known a.last) least seen
 
-  shown_is : (g : Facts) → reading_of s ≡ Shown g → seen ≡ g
+  shown_is : (g : Facts) → reading_of s ≡ Ok g → seen ≡ g
   shown_is g h =
-      let r₃ : CardReading = Shown seen in
-      let r₂ : CardReading = cond least (NotShown 8) r₃ in
-      let h₂ = passed (not (edition_known a.last)) 7 r₂ g (sym reading_is ∙ h) in
-      let h₃ = passed least 8 r₃ g h₂.1 in
+      let r₃ : (Result Facts Refusal) = Ok seen in
+      let r₂ : (Result Facts Refusal) = cond least (Err LaterEdition) r₃ in
+      let h₂ = passed (not (edition_known a.last)) UnknownEdition r₂ g (sym reading_is ∙ h) in
+      let h₃ = passed least LaterEdition r₃ g h₂.1 in
       same_facts seen g h₃.1
 
   reading_right : ReadingRight a s
@@ -209,20 +206,20 @@ module _ (a : Asked) where
         access = λ g h. ap (λ (x : Facts). x.access) (sym (shown_is g h));
       }
 
-  decoded-by : (g : Facts) → reading_of s ≡ Shown g → (t : Bool) → decodable f.layout a.packed a.values ≡ t
-      → (decoding_of s ≡ cond (not t) (LineRefused 13) (Points (points_of f.layout a.packed))) × (values_after s ≡ new_or_kept t (values_of f.layout a.packed) a.values)
+  decoded-by : (g : Facts) → reading_of s ≡ Ok g → (t : Bool) → decodable f.layout a.packed a.values ≡ t
+      → (decoding_of s ≡ cond (not t) (Err WrongLineOrOutput) (Ok (points_of f.layout a.packed))) × (values_after s ≡ new_or_kept t (values_of f.layout a.packed) a.values)
   decoded-by g h t d =
-      let r = h ∙ ap Shown (sym (shown_is g h)) in (
+      let r = h ∙ ap Ok (sym (shown_is g h)) in (
         decoding_from f a.last a.packed a.values (start_of a.first f) a.rewrites
-            ∙ ap (λ (x : CardReading). book_decoding x a.packed a.values) r
-            ∙ ap (λ (t : Bool). cond (not t) (LineRefused 13) (Points (points_of f.layout a.packed))) d,
+            ∙ ap (λ (x : Result Facts Refusal). book_decoding x a.packed a.values) r
+            ∙ ap (λ (t : Bool). cond (not t) (Err WrongLineOrOutput) (Ok (points_of f.layout a.packed))) d,
         values_from f a.last a.packed a.values (start_of a.first f) a.rewrites
-            ∙ ap (λ (x : CardReading). book_values x a.packed a.values) r
+            ∙ ap (λ (x : Result Facts Refusal). book_values x a.packed a.values) r
             ∙ ap (λ (t : Bool). new_or_kept t (values_of f.layout a.packed) a.values) d,
       )
 
-  all-decoded : (g : Facts) → reading_of s ≡ Shown g → captured f.layout a.packed ≡ true → length a.values ≡ 3 * points_of f.layout a.packed
-      → (decoding_of s ≡ Points (points_of f.layout a.packed)) × (values_after s ≡ values_of f.layout a.packed)
+  all-decoded : (g : Facts) → reading_of s ≡ Ok g → captured f.layout a.packed ≡ true → length a.values ≡ 3 * points_of f.layout a.packed
+      → (decoding_of s ≡ Ok (points_of f.layout a.packed)) × (values_after s ≡ values_of f.layout a.packed)
   all-decoded g h c n = decoded-by g h true (ap₂ ◌&&◌ c (eq-eqb (length a.values) (3 * points_of f.layout a.packed) n))
 
   decoding_right : valid_layout f.layout ≡ true → DecodingRight a s

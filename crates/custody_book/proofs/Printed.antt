@@ -16,11 +16,11 @@ use Rattle.card_edition.specs.Edition.{edition_known, has_access}
 use Rattle.card_table.specs.Facts.{least_edition}
 use Rattle.card_edition.specs.Access.{closed}
 use Rattle.card_table.specs.Table.{card_size}
-use Rattle.card_reader.specs.declared.CardReading.TheVariants.{Shown}
-use Rattle.refusal.specs.declared.Written.{Written}
 use Rattle.card_laws.proofs.Printed.{row_7, row_8, by-edition}
 use Rattle.custody_book.specs.History.{Rewrite, Asked, Trace, History}
 use Rattle.custody_book.specs.Meaning.{reading_of, refused, not_shown, EachRight, EachRight.none, EachRight.each, accepted_at}
+use Rattle.std.specs.Prelude.{Result, Ok, ⊤}
+use Rattle.refusal.specs.declared.Refusal.{Refusal}
 use Rattle.custody_book.specs.Printed.{Wording, RewriteWorded, EachWorded, EachWorded.none as no_more, EachWorded.each as one_more, Worded, two_to_four, words, MeansAsPrinted, one_or_two, later_than_two, first_words, PrintedAsFirst, AccessPrinted, CapturedGroups}
 
 -- ---- one wording for another, where they say the same of every edition that is asked
@@ -32,7 +32,7 @@ record Same (p : ℕ → Bool) (f : Facts) (w w' : Wording) : Type 0 where
   keeping : (e : ℕ) → p e ≡ true → w.known e ≡ true → w.keeping e ≡ w'.keeping e
 
 module _ (p : ℕ → Bool) (w w' : Wording) (f : Facts) (same : Same p f w w') where
-  rewrite_reworded : (r : Rewrite) {answer : Written} → p r.edition ≡ true → RewriteWorded w f r answer → RewriteWorded w' f r answer
+  rewrite_reworded : (r : Rewrite) {answer : Result ⊤ Refusal} → p r.edition ≡ true → RewriteWorded w f r answer → RewriteWorded w' f r answer
   rewrite_reworded r q x =
       let k = same.known r.edition q in
       record {
@@ -49,7 +49,7 @@ module _ (p : ℕ → Bool) (w w' : Wording) (f : Facts) (same : Same p f w w') 
       one_more (rewrite_reworded r here x) (each_reworded there xs)
 
   -- an accepted rewrite was at one of the editions
-  kept : (r : Rewrite) (answer : Written) → p r.edition ≡ true → RewriteWorded w f r answer → refused answer || w.keeping r.edition ≡ refused answer || w'.keeping r.edition
+  kept : (r : Rewrite) (answer : Result ⊤ Refusal) → p r.edition ≡ true → RewriteWorded w f r answer → refused answer || w.keeping r.edition ≡ refused answer || w'.keeping r.edition
   kept r answer q x = go (refused answer) (w.known r.edition) refl refl
     where
       go : (t k : Bool) → refused answer ≡ t → w.known r.edition ≡ k → t || w.keeping r.edition ≡ t || w'.keeping r.edition
@@ -77,7 +77,7 @@ reworded p w w' a h same q qs m =
     }
   where
     -- what is shown was read at one of the editions
-    read : (g : Facts) → reading_of h.trace ≡ Shown g → (t : Bool) → w.known a.last ≡ t → w.known a.last ≡ true
+    read : (g : Facts) → reading_of h.trace ≡ Ok g → (t : Bool) → w.known a.last ≡ t → w.known a.last ≡ true
     read g e true r = r
     read g e false r = absurd (false≢true (sym (ap not_shown e) ∙ m.others r))
 

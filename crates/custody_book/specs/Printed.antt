@@ -1,19 +1,16 @@
 -- Those sentences of demand 3 that name editions, with the editions' numbers: as they read since request A6, over editions 1 to 4, and as the customer first worded them, of editions 1 and 2. specs/Meaning.antt has all of the demand over all editions that there are. proofs/Printed.antt proves each claim. Assumes nothing.
-use Rattle.std.specs.Prelude.{ℕ, ◌%◌, Bool, true, false, not, cond, ◌&&◌, ◌||◌, ◌≡◌, List, [], ◌∷◌, eqb, leb, Float, length}
+use Rattle.std.specs.Prelude.{ℕ, ◌%◌, Bool, true, false, not, cond, ◌&&◌, ◌||◌, ◌≡◌, List, [], ◌∷◌, eqb, leb, Float, length, Result, Ok, ⊤}
 use Rattle.lists.specs.Lists.{every}
 use Rattle.layout.specs.declared.Layout.{Layout}
 use Rattle.layout.specs.Layout.{valid_groups}
-use Rattle.line.specs.declared.LineAnswer.{LineAnswer}
 use Rattle.card_table.specs.declared.facts.Facts.{Facts}
 use Rattle.card_edition.specs.Edition.{edition_known}
 use Rattle.card_edition.specs.Access.{closed}
 use Rattle.card_table.specs.Table.{card_size}
-use Rattle.card_reader.specs.declared.CardReading.{CardReading}
-use Rattle.card_reader.specs.declared.CardReading.TheVariants.{Shown}
-use Rattle.refusal.specs.declared.Written.{Written}
 use Rattle.card_laws.specs.Printed.{lacks_layout}
 use Rattle.custody_book.specs.History.{Rewrite, Asked, Trace, Trace.ended, Trace.rewritten, History}
 use Rattle.custody_book.specs.Book.{access_at, captured}
+use Rattle.refusal.specs.declared.Refusal.{Refusal}
 use Rattle.custody_book.specs.Meaning.{reading_of, refused, not_shown, accepted_at, Meaning}
 
 -- ---- the sentences, which are the same both times but for the editions in them
@@ -26,7 +23,7 @@ pub record Wording : Type 0 where
   -- one that keeps the access
   pub keeping : ℕ → Bool
 
-pub record RewriteWorded (w : Wording) (f : Facts) (r : Rewrite) (answer : Written) : Type 0 where
+pub record RewriteWorded (w : Wording) (f : Facts) (r : Rewrite) (answer : Result ⊤ Refusal) : Type 0 where
   -- a rewrite at one of the editions, into an output as long as a card, is refused exactly when the edition lacks the layout
   pub exactly : w.known r.edition ≡ true → length r.output ≡ card_size → refused answer ≡ w.lacking r.edition f
   -- any other edition or output is refused
@@ -34,8 +31,8 @@ pub record RewriteWorded (w : Wording) (f : Facts) (r : Rewrite) (answer : Writt
 
 -- every rewrite of the list
 pub data EachWorded (w : Wording) (f : Facts) : (rewrites : List Rewrite) → Trace → Type 0 where
-  none : {reading : CardReading} {decoding : LineAnswer} {values : List Float} → EachWorded w f [] (ended reading decoding values)
-  each : {r : Rewrite} {rs : List Rewrite} {answer : Written} {output card : List ℕ} {s : Trace}
+  none : {reading : Result Facts Refusal} {decoding : Result ℕ Refusal} {values : List Float} → EachWorded w f [] (ended reading decoding values)
+  each : {r : Rewrite} {rs : List Rewrite} {answer : Result ⊤ Refusal} {output card : List ℕ} {s : Trace}
       → RewriteWorded w f r answer → EachWorded w f rs s → EachWorded w f (r ∷ rs) (rewritten answer output card s)
 
 pub record Worded (w : Wording) (a : Asked) (h : History) : Type 0 where
@@ -45,7 +42,7 @@ pub record Worded (w : Wording) (a : Asked) (h : History) : Type 0 where
   -- any other edition is refused
   pub others : w.known a.last ≡ false → not_shown (reading_of h.trace) ≡ true
   -- the access shown is the one first given if every accepted rewrite and the last reading were at an edition that keeps it, and closed if not
-  pub access : (g : Facts) → reading_of h.trace ≡ Shown g → g.access ≡ cond (accepted_at w.keeping a.rewrites h.trace && w.keeping a.last) a.facts.access closed
+  pub access : (g : Facts) → reading_of h.trace ≡ Ok g → g.access ≡ cond (accepted_at w.keeping a.rewrites h.trace && w.keeping a.last) a.facts.access closed
 
 -- ---- since A6: the layout needs a higher edition than 1 of groups, in range 3 and at 12 bits, than 2 of groups and in range 3, and than 3 of groups (`lacks_layout`); 2, 3 and 4 keep the access
 

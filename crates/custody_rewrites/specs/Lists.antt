@@ -1,8 +1,8 @@
 -- The rewrites of a card in flat lists, as they are asked for, and whether the lists fit together. Assumes nothing.
-use Rattle.std.specs.Prelude.{ℕ, ◌+◌, Bool, ◌&&◌, List, [], ◌∷◌, eqb, length, take, drop}
+use Rattle.std.specs.Prelude.{ℕ, ◌+◌, Bool, ◌&&◌, List, [], ◌∷◌, eqb, length, take, drop, Result, Ok, Err, ⊤}
 use Rattle.card_table.specs.Table.{card_size}
-use Rattle.refusal.specs.declared.Written.{Written}
-use Rattle.refusal.specs.declared.Written.TheVariants.{Done, Refused}
+use Rattle.refusal.specs.Refusal as slip
+use Rattle.refusal.specs.declared.Refusal.{Refusal}
 use Rattle.custody_book.specs.History.{Rewrite}
 
 abbrev pub sum : List ℕ → ℕ
@@ -24,6 +24,6 @@ fitting card editions lengths outputs answers =
     && eqb (sum lengths) outputs
 
 -- an answer as a number: 0 where the card was written, else the refusal's
-abbrev pub number_of : Written → ℕ
-number_of Done = 0
-number_of (Refused k) = k
+abbrev pub number_of : Result ⊤ Refusal → ℕ
+number_of (Ok tt) = 0
+number_of (Err refusal) = slip.number_of refusal

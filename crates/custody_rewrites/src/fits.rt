@@ -9,14 +9,11 @@ fn fill(lengths: &[usize], total: usize) -> bool
     ensures { result ≡ eqb (sum lengths.now) total }
 {
     let mut left = total;
-    let mut i = 0;
-    while i < lengths.len() {
-        let length = lengths[i];
-        if left < length {
+    for length in lengths {
+        if left < *length {
             return false;
         }
-        left -= length;
-        i += 1;
+        left -= *length;
     }
     left == 0
 }

@@ -15,26 +15,25 @@ use Rattle.lists.proofs.Tests.{pass, stop}
 use Rattle.layout.specs.declared.Layout.{Layout}
 use Rattle.layout.specs.Layout.{grouped, valid_points}
 use Rattle.layout.proofs.Facts.{points_say, not_grouped}
-use Rattle.line.specs.declared.LineAnswer.{LineAnswer}
-use Rattle.line.specs.declared.LineAnswer.TheVariants.{Points, Refused as NoLine}
-use Rattle.line.specs.declared.Point.{Point}
-use Rattle.line.specs.Answer.{most_points, fitting, accepted}
+use Rattle.line.specs.Answer.{most_points, fitting}
 use Rattle.line.specs.Line.{points_in}
 use Rattle.line.proofs.Own.{own_points}
 use Rattle.line.proofs.Answers.{fits, unpack_outside, unpack_unfit, unpack_points_lem}
-use Rattle.decoding.specs.declared.DecodedPoint.{DecodedPoint}
-use Rattle.decoding.specs.declared.DecodedPoint.TheVariants.{Decoded, Refused}
 use Rattle.line_values.specs.Decode.{value_at, values_of, decode_answer}
+use Rattle.std.specs.Prelude.{Result, Ok, Err, is_ok}
+use Rattle.refusal.specs.declared.Refusal.{Refusal}
+use Rattle.refusal.specs.declared.Refusal.TheVariants.{Outside}
+use Rattle.parameters.specs.declared.channels.Channels.{Channels}
 use Rattle.decoding.specs.Point.{first_point, decode_point}
 
 -- the first three floats of a line
-abbrev pub first_of : List Float → Point
+abbrev pub first_of : List Float → Channels Float
 first_of vs = record { channel0 = get_or vs 0 nan; channel1 = get_or vs 1 nan; channel2 = get_or vs 2 nan }
 
 -- a line's answer and values, as a point's
-abbrev pub shown : LineAnswer → List Float → DecodedPoint
-shown (Points n) vs = Decoded (first_of vs)
-shown (NoLine k) vs = Refused k
+abbrev pub shown : Result ℕ Refusal → List Float → Result (Channels Float) Refusal
+shown (Ok n) vs = Ok (first_of vs)
+shown (Err k) vs = Err k
 
 -- b bytes a point and three floats: the bytes are b
 pub one-fits : (n b : ℕ) → 0 < b → fitting n b 3 3 ≡ eqb n b
@@ -76,20 +75,20 @@ module _ (l : Layout) (own : grouped l ≡ false) (s : List ℕ) where
           let pos : 0 < l.bytes = omega (arith, (points_say l p).bytes_least) in
           let f = one-fits (length s) l.bytes pos ∙ q in
           let d : length s / l.bytes ≡ 1 = omega (arith, (fits (length s) l.bytes 3 3 f).2) in
-          pass _ (ap not p) (pass _ (ap not q) (ap Decoded (sym (first_of_lem (own_points l own (length s) ∙ d)))))
+          pass _ (ap not p) (pass _ (ap not q) (ap Ok (sym (first_of_lem (own_points l own (length s) ∙ d)))))
           ∙ sym (ap (λ a. shown a (values_of l s)) (unpack_points_lem l own (length s) 3 p f))
 
   -- what the line's decoding answers and leaves is what the point's answers
-  pub point_decoded : (before xs : List Float) (n : ℕ) → Points n ≡ decode_answer l (length s) 3 → xs ≡ new_or_kept (accepted (decode_answer l (length s) 3)) (values_of l s) before → Decoded (first_of xs) ≡ decode_point l s
+  pub point_decoded : (before xs : List Float) (n : ℕ) → Ok n ≡ decode_answer l (length s) 3 → xs ≡ new_or_kept (is_ok (decode_answer l (length s) 3)) (values_of l s) before → Ok (first_of xs) ≡ decode_point l s
   point_decoded before xs n e f =
-      ap (λ vs. Decoded (first_of vs)) (f ∙ ap (λ (a : LineAnswer). new_or_kept (accepted a) (values_of l s) before) (sym e))
+      ap (λ vs. Ok (first_of vs)) (f ∙ ap (λ (a : Result ℕ Refusal). new_or_kept (is_ok a) (values_of l s) before) (sym e))
       ∙ ap (λ a. shown a (values_of l s)) e ∙ sym as_line
 
-  pub point_refused : (k : ℕ) → NoLine k ≡ decode_answer l (length s) 3 → Refused k ≡ decode_point l s
+  pub point_refused : (k : Refusal) → Err k ≡ decode_answer l (length s) 3 → Err k ≡ decode_point l s
   point_refused k e = ap (λ a. shown a (values_of l s)) e ∙ sym as_line
 
 -- of groups there is no point
-pub no_point : (l : Layout) (s : List ℕ) → grouped l ≡ true → Refused 9 ≡ decode_point l s
+pub no_point : (l : Layout) (s : List ℕ) → grouped l ≡ true → Err Outside ≡ decode_point l s
 unfolding decode_point
 no_point l s e = sym (stop _ (ap not (go (valid_points l) refl)))
   where

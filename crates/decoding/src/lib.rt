@@ -7,17 +7,11 @@ ghost use Rattle.line_values.specs.Decode.{decode_answer, decode_output};
 ghost use Rattle.decoding.specs.Point.{decode_point};
 
 use layout::Layout;
-use line::{LineAnswer, Point};
-
-// A point's values, or the refusal's number.
-#[derive(Clone, Copy)]
-pub enum DecodedPoint {
-    Decoded(Point),
-    Refused(u8),
-}
+use line::Point;
+use refusal::Refusal;
 
 // Decodes a line of points or groups to values, three a point. Refused: 9, then 13.
-pub fn decode_line(layout: Layout, packed: &[u8], out: &mut [f32]) -> LineAnswer
+pub fn decode_line(layout: Layout, packed: &[u8], out: &mut [f32]) -> Result<usize, Refusal>
     ensures answer { result ≡ decode_answer layout (length packed.now) (length out.old) }
     ensures memory { out.new ≡ decode_output layout packed.now out.old }
 {
@@ -30,19 +24,18 @@ pub fn decode_line(layout: Layout, packed: &[u8], out: &mut [f32]) -> LineAnswer
 }
 
 // Decodes one point, as a line of one point is; a group has no single point. Refused: 9, then 13.
-pub fn decode_point(layout: Layout, bytes: &[u8]) -> DecodedPoint
+pub fn decode_point(layout: Layout, bytes: &[u8]) -> Result<Point, Refusal>
     ensures { result ≡ decode_point layout bytes.now }
 {
     if layout.grouped() {
-        return DecodedPoint::Refused(refusal::OUTSIDE);
+        return Err(Refusal::Outside);
     }
     let mut values = [0.0, 0.0, 0.0];
-    match point_decoding::decode_points(layout, bytes, &mut values) {
-        LineAnswer::Points(_) => DecodedPoint::Decoded(Point {
-            channel0: values[0],
-            channel1: values[1],
-            channel2: values[2],
-        }),
-        LineAnswer::Refused(number) => DecodedPoint::Refused(number),
-    }
+    point_decoding::decode_points(layout, bytes, &mut values)?;
+    let [channel0, channel1, channel2] = values;
+    Ok(Point {
+        channel0,
+        channel1,
+        channel2,
+    })
 }

@@ -17,19 +17,14 @@ use Rattle.layout.specs.declared.Layout.{Layout}
 use Rattle.parameters.specs.Parameters.{range_of}
 use Rattle.layout.specs.Layout.{grouped, valid_layout}
 use Rattle.layout.proofs.Facts.{two_each, groups_valid}
-use Rattle.quantization.specs.declared.Quantized.TheVariants.{Code}
 use Rattle.quantization.specs.Code.{code_of, code_or, is_cut_code}
 use Rattle.scales.specs.Channel.{scale_at}
 use Rattle.quantization.specs.Answer.{quantized}
 use Rattle.scales.proofs.Known.{channel_known_lem}
 use Rattle.quantization_laws.specs.Printed.{WithinEnds, excluded}
 use Rattle.quantization_laws.proofs.Claims.{quantizes_within-ends}
-use Rattle.line.specs.declared.LineAnswer.{LineAnswer}
-use Rattle.line.specs.declared.LineAnswer.TheVariants.{Points}
-use Rattle.line.specs.declared.ClampedAnswer.{ClampedAnswer}
-use Rattle.line.specs.declared.ClampedAnswer.TheVariants.{Points as PointsAndCuts, Refused as NotClamped}
 use Rattle.line.specs.Line.{code_at, points_in, codes_of, bytes_for, packed_of, looked, stands_for, shared, PackedLine, CodeLine}
-use Rattle.line.specs.Answer.{most_points, whole_bytes, unpackable, odd_points, packable, unpack_answer, accepted, clamped_accepted}
+use Rattle.line.specs.Answer.{most_points, whole_bytes, unpackable, odd_points, packable, unpack_answer}
 use Rattle.line_values.specs.Encode.{value_code, quantized_of, value_cut, cuts_of, all_numbers, encode_answer, encode_output, encode_point_answer}
 use Rattle.line_values.proofs.Encodes.{length-quantized}
 use Rattle.line_values.specs.Decode.{values_of, decode_answer, decode_output}
@@ -38,13 +33,16 @@ use Rattle.scanline_laws.proofs.Accepted.{points_in_lem, even_points, odd_points
 use Rattle.scanline_laws.proofs.Looked.{stands_looked, stands_before, itself, length-shared, shared_at, every-shared, shared_alike, packed_alike}
 use Rattle.scanline_laws.proofs.Claims.{packs_what_was_unpacked, packs_back_whole, unpacks_what_was_packed, packs_to_bytes, packs_unused_bits_as_zero, encodes_to_codes, length-codes, no_points, counts_empty_lines as empty-lines}
 use Rattle.decoding_laws.specs.Claims.{clamped_to, quantized_at, says_cut, ValueLine, DecodesLines, LeavesValues, RefusesOtherOutputs, DecodesEachCode, QuantizesWhatWasDecoded, EncodesEachValue, CountsEachCut, EncodesWithinEnds, EncodesWhatWasDecoded, AnyLineComesBack, AnyLineReturns, WholeLinesReturn, RefusesOddCounts, RefusesTooMany, RefusesPartsOfPoints, CountsEmptyLines, DecodesPointAsLine, RefusesPointAsLine, RefusesPointsOfGroups, EncodesWithoutLooking}
+use Rattle.std.specs.Prelude.{Result, Ok, Err, is_ok}
+use Rattle.refusal.specs.declared.Refusal.{Refusal}
+use Rattle.refusal.specs.declared.Refusal.TheVariants.{NotANumber, OddCount, Outside, WrongLineOrOutput}
 use Rattle.decoding_laws.proofs.Values.{number_coded, length-values, codes_back, cuts_back, none-clamped, all-numbers, as_dequantized, values_of_lem, three}
 
 pub decodes_lines : DecodesLines
 decodes_lines l n s p h = unpacking_accepted l n s (3 * n) p (omega arith) h
 
 pub leaves_values : LeavesValues
-leaves_values l n s p h before e = ap (λ (a : LineAnswer). new_or_kept (accepted a) (values_of l s) before) (unpacking_accepted l n s (length before) p e h)
+leaves_values l n s p h before e = ap (λ (a : Result ℕ Refusal). new_or_kept (is_ok a) (values_of l s) before) (unpacking_accepted l n s (length before) p e h)
 
 pub refuses_other_outputs : RefusesOtherOutputs
 unfolding unpack_answer
@@ -63,13 +61,13 @@ decodes_each_code l n s p = let e = values_of_lem l n s p in (e, λ k h. as_dequ
 -- ---- a line of values
 
 -- it is accepted
-encoded : (l : Layout) (n : ℕ) (vs : List Float) (bytes : ℕ) → ValueLine l n vs → bytes ≡ bytes_for l n → n ≤ most_points → encode_answer l vs bytes ≡ PointsAndCuts n (cuts_of l vs)
+encoded : (l : Layout) (n : ℕ) (vs : List Float) (bytes : ℕ) → ValueLine l n vs → bytes ≡ bytes_for l n → n ≤ most_points → encode_answer l vs bytes ≡ Ok (n, cuts_of l vs)
 unfolding encode_answer
 encoded l n vs bytes p e h =
     pass _ (ap not p.valid)
     (pass _ (even_points l p.valid n p.whole (length vs) p.points)
     (pass _ (ap not (can_pack l p.valid n p.whole (length vs) bytes p.points e h))
-    (pass _ (ap not p.numbers) (ap (λ (m : ℕ). PointsAndCuts m (cuts_of l vs)) (points_in_lem l p.valid n p.whole bytes e)))))
+    (pass _ (ap not p.numbers) (ap (λ (m : ℕ). Ok (m, cuts_of l vs)) (points_in_lem l p.valid n p.whole bytes e)))))
 
 module _ (l : Layout) (n : ℕ) (vs : List Float) (p : ValueLine l n vs) where
   -- what is looked at is a number
@@ -79,7 +77,7 @@ module _ (l : Layout) (n : ℕ) (vs : List Float) (p : ValueLine l n vs) where
       ∙ every_at (λ v. not (is_nan v)) nan (shared l nan vs) k p.numbers (omega (arith, h, length-shared l nan vs))
 
   -- quantizing it answers its code
-  answered : (k : ℕ) → k < length vs → looked l k ≡ true → quantized_at l vs k ≡ Code (record { code = value_code l vs k; cut = value_cut l vs k })
+  answered : (k : ℕ) → k < length vs → looked l k ≡ true → quantized_at l vs k ≡ Ok (record { code = value_code l vs k; cut = value_cut l vs k })
   unfolding quantized value_code value_cut
   answered k h e = pass _ (ap not (channel_known_lem l (k % 3) p.valid (omega arith))) (number_coded (scale_at l (k % 3)) (get_or vs k nan) (number_at k h e))
 
@@ -115,10 +113,10 @@ module _ (l : Layout) (n : ℕ) (vs : List Float) (p : ValueLine l n vs) where
       ∙ shared_at l 0 cs k (omega (arith, inside, length-tabulate (length vs) (value_code l vs)))
       ∙ get_or-tabulate (length vs) (value_code l vs) own 0 there
 
-  each_value : (k : ℕ) → k < 3 * n → looked l k ≡ true → quantized_at l vs k ≡ Code (record { code = code_at l s k; cut = value_cut l vs k })
+  each_value : (k : ℕ) → k < 3 * n → looked l k ≡ true → quantized_at l vs k ≡ Ok (record { code = code_at l s k; cut = value_cut l vs k })
   each_value k h e =
       let code = code_of_lem k h ∙ ap (value_code l vs) (itself l k e) in
-      answered k (omega (arith, p.points)) e ∙ (λ i. Code (record { code = sym code i; cut = value_cut l vs k }))
+      answered k (omega (arith, p.points)) e ∙ (λ i. Ok (record { code = sym code i; cut = value_cut l vs k }))
 
 pub encodes_each_value : EncodesEachValue
 encodes_each_value l n vs p = (bytes l n vs p, each_value l n vs p)
@@ -127,7 +125,7 @@ pub counts_each-cut : CountsEachCut
 unfolding cuts_of
 counts_each-cut l n vs p h =
     encoded l n vs (bytes_for l n) p refl h
-    ∙ ap (PointsAndCuts n) (count_same (length vs) (λ k. looked l k && value_cut l vs k) (λ k. looked l k && says_cut (quantized_at l vs k)) (cut_said l n vs p) ∙ ap (λ (m : ℕ). count m (λ k. looked l k && says_cut (quantized_at l vs k))) p.points)
+    ∙ ap (λ (x : ℕ). Ok (n, x)) (count_same (length vs) (λ k. looked l k && value_cut l vs k) (λ k. looked l k && says_cut (quantized_at l vs k)) (cut_said l n vs p) ∙ ap (λ (m : ℕ). count m (λ k. looked l k && says_cut (quantized_at l vs k))) p.points)
 
 pub encodes_within-ends : EncodesWithinEnds
 encodes_within-ends l n vs p k h =
@@ -156,13 +154,13 @@ any_line_comes_back l n s p h floats bytes ef eb =
     let vs = values_of l s in
     let left : decode_output l s floats ≡ vs = leaves_values l n s p h floats ef in
     let none : ℕ → Bool = λ k. looked l k && excluded (range_of l.range) l.depth (code_at l s k) in
-    let taken : encode_answer l vs (length bytes) ≡ PointsAndCuts n (count (3 * n) none) =
+    let taken : encode_answer l vs (length bytes) ≡ Ok (n, count (3 * n) none) =
     encoded l n vs (length bytes) (value_line l n s p) (eb ∙ p.points) h
-    ∙ ap (PointsAndCuts n) (cuts_back l s p.valid p.bytes ∙ ap (λ (m : ℕ). count m none) (sym (length-values l s) ∙ values_of_lem l n s p)) in (
+    ∙ ap (λ (x : ℕ). Ok (n, x)) (cuts_back l s p.valid p.bytes ∙ ap (λ (m : ℕ). count m none) (sym (length-values l s) ∙ values_of_lem l n s p)) in (
       unpacking_accepted l n s (length floats) p ef h,
       ap (λ (xs : List Float). encode_answer l xs (length bytes)) left ∙ taken,
       ap (λ (xs : List Float). encode_output l xs bytes) left
-          ∙ ap (λ (a : ClampedAnswer). new_or_kept (clamped_accepted a) (packed_of l (quantized_of l vs)) bytes) taken
+          ∙ ap (λ (a : Result (ℕ × ℕ) Refusal). new_or_kept (is_ok a) (packed_of l (quantized_of l vs)) bytes) taken
           ∙ ap (packed_of l) (codes_back l s p.valid p.bytes),
     )
 
@@ -196,7 +194,7 @@ counts_empty_lines l ok =
 -- ---- one point
 
 -- three floats are those of one point, which is one of its own
-one_point : (l : Layout) (bytes n : ℕ) → decode_answer l bytes 3 ≡ Points n → (n ≡ 1) × (points_in l bytes ≡ 1) × (grouped l ≡ false)
+one_point : (l : Layout) (bytes n : ℕ) → decode_answer l bytes 3 ≡ Ok n → (n ≡ 1) × (points_in l bytes ≡ 1) × (grouped l ≡ false)
 unfolding unpack_answer
 one_point l bytes n e = go (valid_layout l) (unpackable l bytes 3) refl refl
   where
@@ -218,10 +216,10 @@ pub decodes_point_as_line : DecodesPointAsLine
 decodes_point_as_line l s n e =
     let h = one_point l (length s) n e in
     let vs = values_of l s in
-    (h.0, first_of vs, as_line l h.2 s ∙ ap (λ (a : LineAnswer). shown a vs) e, three vs (length-values l s ∙ ap (λ (m : ℕ). 3 * m) h.1))
+    (h.0, first_of vs, as_line l h.2 s ∙ ap (λ (a : Result ℕ Refusal). shown a vs) e, three vs (length-values l s ∙ ap (λ (m : ℕ). 3 * m) h.1))
 
 pub refuses_point_as_line : RefusesPointAsLine
-refuses_point_as_line l s k own e = as_line l own s ∙ ap (λ (a : LineAnswer). shown a (values_of l s)) e
+refuses_point_as_line l s k own e = as_line l own s ∙ ap (λ (a : Result ℕ Refusal). shown a (values_of l s)) e
 
 pub refuses_points_of_groups : RefusesPointsOfGroups
 unfolding encode_point_answer
@@ -237,8 +235,8 @@ encodes_without_looking l vs ws long agree = (
       get_or-tabulate (length vs) (value_code l vs) k 0 inside ∙ ap (λ (v : Float). code_or 0 (code_of (scale_at l (k % 3)) v)) (agree k inside e)
       ∙ sym (get_or-tabulate (length ws) (value_code l ws) k 0 (omega (arith, inside, long)))),
   λ bytes. λ i.
-      cond (not (valid_layout l)) (NotClamped 9) (cond (odd_points l (long i)) (NotClamped 16) (cond (not (packable l (long i) bytes)) (NotClamped 13)
-      (cond (not (all_numbers (shared_alike l nan vs ws long agree i))) (NotClamped 12) (PointsAndCuts (points_in l bytes) (cuts i))))),
+      cond (not (valid_layout l)) (Err Outside) (cond (odd_points l (long i)) (Err OddCount) (cond (not (packable l (long i) bytes)) (Err WrongLineOrOutput)
+      (cond (not (all_numbers (shared_alike l nan vs ws long agree i))) (Err NotANumber) (Ok (points_in l bytes, cuts i))))),
 )
   where
     cut : (k : ℕ) → k < length vs → looked l k && value_cut l vs k ≡ looked l k && value_cut l ws k

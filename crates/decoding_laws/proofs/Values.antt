@@ -26,12 +26,10 @@ use Rattle.parameters.specs.Parameters.{depth_known, top_of, range_of, kind_of}
 use Rattle.layout.specs.Layout.{offset_of, valid_layout}
 use Rattle.layout.proofs.Facts.{one_of_two, not_grouped, groups_say, valid_says}
 use Rattle.scale.specs.declared.Scale.{Scale}
-use Rattle.quantization.specs.declared.code.Coded.TheVariants.{Code}
-use Rattle.quantization.specs.declared.Quantized.TheVariants.{Code as Answered}
 use Rattle.scale.specs.Value.{value_of}
 use Rattle.quantization.specs.Code.{code_of, code_or, is_cut_code}
 use Rattle.scales.specs.Channel.{scale_at}
-use Rattle.quantization.specs.Answer.{named, dequantized, or_refused}
+use Rattle.quantization.specs.Answer.{named, dequantized}
 use Rattle.scales.proofs.Known.{channel_known_lem}
 use Rattle.quantization_laws.specs.Printed.{printed_low, printed_high, excluded}
 use Rattle.quantization_laws.proofs.Printed.{ends_printed, within-ends, included_code, excluded_code}
@@ -45,10 +43,12 @@ use Rattle.scanline_laws.proofs.Accepted.{points_in_lem}
 use Rattle.scanline_laws.proofs.Looked.{beyond}
 use Rattle.line_values.specs.Encode.{value_code, quantized_of, value_cut, cuts_of, all_numbers}
 use Rattle.line_values.specs.Decode.{value_at, values_of}
+use Rattle.refusal.specs.declared.Refusal.TheVariants.{NotANumber}
+use Rattle.std.specs.Prelude.{Ok, Some, ok_or}
 use Rattle.decoding_laws.specs.Claims.{clamped_to, none_excluded}
 
 -- what has a code is a number
-has_code : (sc : Scale) (v : Float) (c : Clamped) → code_of sc v ≡ Code c → not (is_nan v) ≡ true
+has_code : (sc : Scale) (v : Float) (c : Clamped) → code_of sc v ≡ Some c → not (is_nan v) ≡ true
 unfolding code_of is_nan
 has_code sc nan c e = let z : ◌≡◌ {A = ℕ} 0 1 = cc in absurd (omega arith)
 has_code sc (inf s) c e = refl
@@ -61,7 +61,7 @@ map-tabulate f zero g = refl
 map-tabulate f (suc n) g = ap (λ (xs : List ℕ). f (g 0) ∷ xs) (map-tabulate f n (λ k. g (suc k)))
 
 -- a number has a code, which quantizing answers, with its cut
-pub number_coded : (sc : Scale) (v : Float) → not (is_nan v) ≡ true → or_refused (code_of sc v) ≡ Answered (record { code = code_or 0 (code_of sc v); cut = is_cut_code (code_of sc v) })
+pub number_coded : (sc : Scale) (v : Float) → not (is_nan v) ≡ true → ok_or (code_of sc v) NotANumber ≡ Ok (record { code = code_or 0 (code_of sc v); cut = is_cut_code (code_of sc v) })
 unfolding code_of is_nan
 number_coded sc nan e = let z : ◌≡◌ {A = ℕ} 0 1 = cc in absurd (omega arith)
 number_coded sc (inf false) e = refl
@@ -103,14 +103,14 @@ module _ (l : Layout) (s : List ℕ) where
     ]
 
     -- the code of value k is code k, clamped
-    code_back : (k : ℕ) → k < length (values_of l s) → code_of (scale_at l (k % 3)) (get_or (values_of l s) k nan) ≡ Code (clamped (printed_low (range_of l.range) l.depth) (printed_high (range_of l.range) l.depth) (pos (code_at l s k)))
+    code_back : (k : ℕ) → k < length (values_of l s) → code_of (scale_at l (k % 3)) (get_or (values_of l s) k nan) ≡ Some (clamped (printed_low (range_of l.range) l.depth) (printed_high (range_of l.range) l.depth) (pos (code_at l s k)))
     code_back k h =
         let r = valid_says l ok in
         let range = range_of l.range in
         let f = ends_printed l.depth r.depth range in
         ap (code_of (scale_at l (k % 3))) (value_at_lem k h)
         ∙ code_returns range (kind_of l.model (k % 3)) l.depth (code_at l s k) r.depth_least r.depth_most (code_le k)
-        ∙ ap₂ (λ (low high : ℕ). Code (clamped low high (pos (code_at l s k)))) f.0 f.1
+        ∙ ap₂ (λ (low high : ℕ). Some (clamped low high (pos (code_at l s k)))) f.0 f.1
 
     pub codes_back : quantized_of l (values_of l s) ≡ map (clamped_to l) (codes_of l s)
     unfolding quantized_of value_code codes_of

@@ -1,6 +1,5 @@
 // A descriptor: 76 bytes that tell a layout, read and written (document 01, "Descriptor").
 #![tactic(auto)]
 
-pub use descriptor_reader::{DescriptorReading, read};
+pub use descriptor_reader::read;
 pub use descriptor_writer::write;
-pub use refusal::Written;

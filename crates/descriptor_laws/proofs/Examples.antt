@@ -6,13 +6,14 @@ use lib.ListN.{set}
 use Rattle.lists.specs.Bytes.{bytes_of}
 use Rattle.layout.specs.declared.Layout.{Layout}
 use Rattle.descriptor_samples.specs.Samples.{states, all_state, range_in, samples_right}
-use Rattle.descriptor_layout.specs.declared.DescriptorReading.TheVariants.{Accepted, Refused}
 use Rattle.descriptor_reader.specs.Sample.{sample_in, samples_in}
 use Rattle.descriptor_reader.specs.Header.{header_right, color_right, planes_right}
 use Rattle.descriptor_layout.specs.Told.{offset_in, layout_from, read_samples}
 use Rattle.descriptor_reader.specs.Reading.{read_descriptor}
 use Rattle.descriptor_writer.specs.Field.{rising, fields_of}
 use Rattle.descriptor_writer.specs.Sample.{sample_bytes, sample_of, samples_of}
+use Rattle.std.specs.Prelude.{Ok, Err}
+use Rattle.refusal.specs.declared.Refusal.TheVariants.{NoRange, WrongColor, WrongHeader, WrongLength, WrongPlanes, WrongSample}
 use Rattle.descriptor_writer.specs.Writing.{front_bytes, samples_bytes, descriptor_bytes}
 
 -- B', G', R' of 8 bits in three bytes, full range, BT.709
@@ -53,19 +54,19 @@ early_bytes =
 
 -- the three tables, read and written; one sample of the third with full range's 255; then one byte too many, and one byte changed for each of the rows 2 to 6
 examples : (descriptor_bytes bgr ≡ bgr_bytes)
-    × (read_descriptor bgr_bytes ≡ Accepted bgr)
+    × (read_descriptor bgr_bytes ≡ Ok bgr)
     × (descriptor_bytes ten ≡ ten_bytes)
-    × (read_descriptor ten_bytes ≡ Accepted ten)
+    × (read_descriptor ten_bytes ≡ Ok ten)
     × (descriptor_bytes early ≡ early_bytes)
-    × (read_descriptor early_bytes ≡ Accepted early)
-    × (read_descriptor (set (set early_bytes 40 255) 41 0) ≡ Refused 6)
-    × (read_descriptor (ten_bytes ++ (0 ∷ [])) ≡ Refused 1)
-    × (read_descriptor (set ten_bytes 8 2) ≡ Refused 2)
-    × (read_descriptor (set ten_bytes 12 3) ≡ Refused 3)
-    × (read_descriptor (set ten_bytes 20 9) ≡ Refused 4)
-    × (read_descriptor (set ten_bytes 29 1) ≡ Refused 5)
-    × (read_descriptor (set ten_bytes 63 18) ≡ Refused 5)
-    × (read_descriptor (set (set ten_bytes 40 172) 64 1) ≡ Refused 5)
-    × (read_descriptor (set ten_bytes 40 172) ≡ Refused 6)
+    × (read_descriptor early_bytes ≡ Ok early)
+    × (read_descriptor (set (set early_bytes 40 255) 41 0) ≡ Err NoRange)
+    × (read_descriptor (ten_bytes ++ (0 ∷ [])) ≡ Err WrongLength)
+    × (read_descriptor (set ten_bytes 8 2) ≡ Err WrongHeader)
+    × (read_descriptor (set ten_bytes 12 3) ≡ Err WrongColor)
+    × (read_descriptor (set ten_bytes 20 9) ≡ Err WrongPlanes)
+    × (read_descriptor (set ten_bytes 29 1) ≡ Err WrongSample)
+    × (read_descriptor (set ten_bytes 63 18) ≡ Err WrongSample)
+    × (read_descriptor (set (set ten_bytes 40 172) 64 1) ≡ Err WrongSample)
+    × (read_descriptor (set ten_bytes 40 172) ≡ Err NoRange)
 unfolding bytes_of sample_bytes sample_in samples_in states all_state range_in sample_of rising fields_of samples_of samples_right offset_in front_bytes samples_bytes descriptor_bytes header_right color_right planes_right layout_from read_samples read_descriptor
 examples = (refl, refl, refl, refl, refl, refl, refl, refl, refl, refl, refl, refl, refl, refl, refl)

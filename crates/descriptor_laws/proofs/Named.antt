@@ -1,15 +1,18 @@
 -- Right samples that state a range are the samples of the layout that they tell, and the layout is valid. Assumes nothing.
-use mathlib.Core.Path.{◌≡◌, refl, sym, ap, ◌∙◌}
+use mathlib.Core.Path.{◌≡◌, refl, sym, ap, ◌∙◌, subst}
 use mathlib.Core.Bool.{Bool, true, false, not, cond, ◌&&◌, ◌||◌, false≢true}
 use mathlib.Core.Logic.{◌⊎◌, inl, inr}
 use Prim.Native.Nat.{ℕ, zero, suc, ◌+◌, ◌*◌, ◌≤◌, ◌<◌}
 use native.Mathlib.Omega.{arith}
 use borrow.Author.Tests.{eq-eqb, ltb-true, lt-ltb, le-ltb, le-leb}
 use lib.Dec.{eqb, leb}
+use Rattle.std.specs.Prelude.{Some, None}
+use Rattle.std.proofs.lemmas.Option.{none-some, same_Some}
 use Rattle.lists.proofs.Tests.{and_left, and_right, and3, pass, stop}
 use Rattle.layout.specs.declared.Layout.{Layout}
+use Rattle.parameters.specs.declared.range.Range.{Range}
 use Rattle.parameters.specs.declared.range.Range.TheVariants.{Narrow, Full, LegacyFull}
-use Rattle.parameters.specs.Parameters.{range_known, range_of, channel_known, kind_of}
+use Rattle.parameters.specs.Parameters.{range_number, range_known, range_of, channel_known, kind_of}
 use Rattle.layout.specs.Layout.{inside, apart}
 use Rattle.descriptor_samples.specs.declared.sample.Sample.{Sample}
 use Rattle.descriptor_samples.specs.declared.samples.Samples.{Samples}
@@ -25,20 +28,33 @@ use Rattle.descriptor_laws.proofs.Samples.{field, sample_for, samples_for, range
 
 -- ---- the range that all three state
 
-pub range_stated : (model : ℕ) (s : Samples) → eqb (range_from model s) 0 ≡ false
-    → (all_state model (range_of (range_from model s)) (s.first.length + 1) s ≡ true) × (range_known (range_from model s) ≡ true)
+pub range_stated : (model : ℕ) (s : Samples) (range : Range) → range_from model s ≡ Some range → all_state model range (s.first.length + 1) s ≡ true
 unfolding range_in
-range_stated model s = go (all_state model Narrow n s) (all_state model Full n s) (all_state model LegacyFull n s) refl refl refl
+range_stated model s range = go (all_state model Narrow n s) (all_state model Full n s) (all_state model LegacyFull n s) refl refl refl
   where
     n : ℕ
     n = s.first.length + 1
 
-    go : (t u w : Bool) → all_state model Narrow n s ≡ t → all_state model Full n s ≡ u → all_state model LegacyFull n s ≡ w → eqb (cond t 1 (cond u 2 (cond w 3 0))) 0 ≡ false
-        → (all_state model (range_of (cond t 1 (cond u 2 (cond w 3 0)))) n s ≡ true) × (range_known (cond t 1 (cond u 2 (cond w 3 0))) ≡ true)
-    go true u w e f g h = (e, refl)
-    go false true w e f g h = (f, refl)
-    go false false true e f g h = (g, refl)
-    go false false false e f g h = absurd (false≢true (sym h))
+    states : (r : Range) → all_state model r n s ≡ true → Some r ≡ Some range → all_state model range n s ≡ true
+    states r e h = subst (λ (q : Range). all_state model q n s ≡ true) (same_Some r range h) e
+
+    go : (t u w : Bool) → all_state model Narrow n s ≡ t → all_state model Full n s ≡ u → all_state model LegacyFull n s ≡ w
+        → cond t (Some Narrow) (cond u (Some Full) (cond w (Some LegacyFull) None)) ≡ Some range → all_state model range n s ≡ true
+    go true u w e f g h = states Narrow e h
+    go false true w e f g h = states Full f h
+    go false false true e f g h = states LegacyFull g h
+    go false false false e f g h = absurd (none-some range h)
+
+-- a range's number is known, and is that range's
+pub number_known : (range : Range) → range_known (range_number range) ≡ true
+number_known Narrow = refl
+number_known Full = refl
+number_known LegacyFull = refl
+
+pub number_own : (range : Range) → range_of (range_number range) ≡ range
+number_own Narrow = refl
+number_own Full = refl
+number_own LegacyFull = refl
 
 -- ---- each channel once
 

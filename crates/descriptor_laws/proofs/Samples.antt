@@ -9,14 +9,14 @@ use mathlib.Core.List.{List}
 use lib.Dec.{eqb, leb}
 use lib.ListN.{get_or}
 use Rattle.lists.proofs.Tests.{or_cases, pass, stop}
+use Rattle.std.specs.Prelude.{Option, Some}
 use Rattle.layout.specs.declared.Layout.{Layout}
 use Rattle.parameters.specs.declared.range.Range.{Range}
 use Rattle.parameters.specs.declared.range.Range.TheVariants.{Narrow, Full, LegacyFull}
 use Rattle.parameters.specs.declared.kind.Kind.{Kind}
-use Rattle.parameters.specs.Parameters.{range_number, range_of, depth_known, kind_of}
+use Rattle.parameters.specs.Parameters.{range_of, depth_known, kind_of}
 use Rattle.layout.specs.Layout.{apart}
 use Rattle.parameters.proofs.Depths.{Steps, steps}
-use Rattle.parameters.proofs.Known.{range_number_lem}
 use Rattle.layout.proofs.Facts.{Points}
 use Rattle.descriptor_samples.specs.declared.sample.Sample.{Sample}
 use Rattle.descriptor_samples.specs.declared.samples.Samples.{Samples}
@@ -59,12 +59,12 @@ unfolding samples_of
 of_samples l = (of_sample l (fields_of l).first, of_sample l (fields_of l).second, of_sample l (fields_of l).third)
 
 -- the range that samples state at their own depth
-abbrev pub range_from : ℕ → Samples → ℕ
+abbrev pub range_from : ℕ → Samples → Option Range
 range_from model s = range_in model (s.first.length + 1) s
 
--- the layout that the bytes hold
-abbrev pub layout_in : List ℕ → Layout
-layout_in b = layout_from (get_or b 12 0) (get_or b 13 0) (range_from (get_or b 12 0) (samples_in b)) (get_or b 20 0) (samples_in b)
+-- the layout that the bytes hold, with the range that their samples state
+abbrev pub layout_in : List ℕ → Range → Layout
+layout_in b range = layout_from (get_or b 12 0) (get_or b 13 0) range (get_or b 20 0) (samples_in b)
 
 -- ---- right
 
@@ -185,9 +185,9 @@ module _ (l : Layout) (v : Points l) where
           let o = (of_samples l).0 in
           absurd (differ (kind_of l.model s.channel) (sym o.lower ∙ eqb-true s.lower low a) (sym o.upper ∙ eqb-true s.upper high b))
 
-  pub range_samples : range_from l.model (samples_of l) ≡ l.range
+  pub range_samples : range_from l.model (samples_of l) ≡ Some (range_of l.range)
   unfolding range_in Differs
-  range_samples = go (range_of l.range) refl ∙ range_number_lem l.range v.range
+  range_samples = go (range_of l.range) refl
     where
       t : Steps l.depth
       t = steps l.depth v.depth_least v.depth_most
@@ -201,13 +201,13 @@ module _ (l : Layout) (v : Points l) where
       other : (r q : Range) → range_of l.range ≡ r → Differs r q → all_state l.model q ((samples_of l).first.length + 1) (samples_of l) ≡ false
       other r q e differ = at q (not_other q (subst (λ (x : Range). Differs x q) (sym e) differ))
 
-      go : (r : Range) → range_of l.range ≡ r → range_from l.model (samples_of l) ≡ range_number (range_of l.range)
-      go Narrow e = stop _ (own Narrow e) ∙ ap range_number (sym e)
-      go Full e = pass _ (other Full Narrow e (λ k a b. omega (arith, t.least))) (stop _ (own Full e)) ∙ ap range_number (sym e)
+      go : (r : Range) → range_of l.range ≡ r → range_from l.model (samples_of l) ≡ Some (range_of l.range)
+      go Narrow e = stop _ (own Narrow e) ∙ ap Some (sym e)
+      go Full e = pass _ (other Full Narrow e (λ k a b. omega (arith, t.least))) (stop _ (own Full e)) ∙ ap Some (sym e)
       go LegacyFull e =
           pass _ (other LegacyFull Narrow e (λ k a b. omega (arith, t.least)))
           (pass _ (other LegacyFull Full e (λ k a b. omega (arith, t.least, t.whole))) (stop _ (own LegacyFull e)))
-          ∙ ap range_number (sym e)
+          ∙ ap Some (sym e)
 
 -- ---- the offsets
 

@@ -1,6 +1,6 @@
 -- The descriptor of a valid layout is read as the layout. Assumes nothing.
 use mathlib.Core.Path.{◌≡◌, refl, sym, ap, ap₂, ◌∙◌}
-use mathlib.Core.Bool.{true, false, ◌&&◌}
+use mathlib.Core.Bool.{true, ◌&&◌}
 use Prim.Native.Nat.{ℕ, zero, suc, ◌+◌, ◌*◌, ◌/◌, ◌%◌, ◌^◌, ◌≤◌, ◌<◌}
 use native.Mathlib.Nat.{pow-suc, div-lt_iff_lt-mul}
 use native.Mathlib.Omega.{arith}
@@ -13,14 +13,13 @@ use Rattle.parameters.specs.declared.range.Range.{Range}
 use Rattle.parameters.specs.declared.range.Range.TheVariants.{Narrow, Full, LegacyFull}
 use Rattle.parameters.specs.declared.kind.Kind.{Kind}
 use Rattle.parameters.specs.declared.kind.Kind.TheVariants.{Brightness, Difference}
-use Rattle.parameters.specs.Parameters.{range_number, range_of, kind_of}
+use Rattle.parameters.specs.Parameters.{range_of, kind_of}
 use Rattle.layout.specs.Layout.{bytes_known}
 use Rattle.parameters.proofs.Depths.{Steps, steps}
 use Rattle.parameters.proofs.Known.{range_number_lem}
 use Rattle.layout.proofs.Facts.{Points, points_say}
 use Rattle.descriptor_samples.specs.declared.sample.Sample.{Sample}
 use Rattle.descriptor_samples.specs.declared.samples.Samples.{Samples}
-use Rattle.descriptor_layout.specs.declared.DescriptorReading.TheVariants.{Accepted}
 use Rattle.descriptor_writer.specs.declared.field.Field.{Field}
 use Rattle.descriptor_writer.specs.Field.{fields_of}
 use Rattle.descriptor_samples.specs.Limits.{lower_of, upper_of}
@@ -35,6 +34,7 @@ use Rattle.descriptor_layout.proofs.Answers.{accepted}
 use Rattle.descriptor_reader.proofs.Answers.{samples_decide}
 use Rattle.descriptor_laws.proofs.Order.{rising-all}
 use Rattle.descriptor_laws.proofs.Samples.{field, range_from, layout_in, Of, of_samples, right_samples, range_samples, offsets}
+use Rattle.std.specs.Prelude.{Some, Ok}
 use Rattle.descriptor_laws.specs.Claims.{Accepts}
 
 -- what reading k bytes of a number gives
@@ -118,7 +118,7 @@ module _ (l : Layout) (v : Points l) where
       refl
 
   -- and with them the layout
-  layout_again : layout_from l.model l.primaries (range_from l.model (samples_of l)) l.bytes (samples_of l) ≡ l
+  layout_again : layout_from l.model l.primaries (range_of l.range) l.bytes (samples_of l) ≡ l
   unfolding layout_from
   layout_again =
       let o = offsets l in
@@ -126,7 +126,7 @@ module _ (l : Layout) (v : Points l) where
       λ i. record {
         model = l.model;
         primaries = l.primaries;
-        range = range_samples l v i;
+        range = range_number_lem l.range v.range i;
         depth = n i;
         bytes = l.bytes;
         offset0 = o.0 i;
@@ -155,33 +155,25 @@ module _ (l : Layout) (v : Points l) where
   unfolding descriptor_bytes samples_bytes front_bytes sample_bytes bytes_of
   right_is = ap (samples_right l.bytes) samples_again ∙ right_samples l v
 
-  range_is : range_from (get_or (descriptor_bytes l) 12 0) (samples_in (descriptor_bytes l)) ≡ l.range
+  range_is : range_from (get_or (descriptor_bytes l) 12 0) (samples_in (descriptor_bytes l)) ≡ Some (range_of l.range)
   unfolding descriptor_bytes samples_bytes front_bytes sample_bytes bytes_of
   range_is = ap (range_from l.model) samples_again ∙ range_samples l v
 
-  range_stated : eqb l.range 0 ≡ false
-  range_stated = ap (λ (r : ℕ). eqb r 0) (sym (range_number_lem l.range v.range)) ∙ none (range_of l.range)
-    where
-      none : (r : Range) → eqb (range_number r) 0 ≡ false
-      none Narrow = refl
-      none Full = refl
-      none LegacyFull = refl
-
-  layout_is : layout_in (descriptor_bytes l) ≡ l
+  layout_is : layout_in (descriptor_bytes l) (range_of l.range) ≡ l
   unfolding descriptor_bytes samples_bytes front_bytes sample_bytes bytes_of
-  layout_is = ap (λ (s : Samples). layout_from l.model l.primaries (range_from l.model s) l.bytes s) samples_again ∙ layout_again
+  layout_is = ap (λ (s : Samples). layout_from l.model l.primaries (range_of l.range) l.bytes s) samples_again ∙ layout_again
 
   length_is : eqb (length (descriptor_bytes l)) 76 ≡ true
   unfolding descriptor_bytes samples_bytes front_bytes sample_bytes bytes_of
   length_is = refl
 
-  read_descriptor_lem : read_descriptor (descriptor_bytes l) ≡ Accepted l
+  read_descriptor_lem : read_descriptor (descriptor_bytes l) ≡ Ok l
   read_descriptor_lem =
       let b = descriptor_bytes l in
       sym
-      (accepted (get_or b 12 0) (get_or b 13 0) (get_or b 20 0) (samples_in b) right_is (ap (λ (r : ℕ). eqb r 0) range_is ∙ range_stated)
+      (accepted (get_or b 12 0) (get_or b 13 0) (get_or b 20 0) (samples_in b) right_is (range_of l.range) range_is
       ∙ samples_decide b length_is header_is color_is planes_is)
-      ∙ ap Accepted layout_is
+      ∙ ap Ok layout_is
 
 pub accepts : Accepts
 accepts l e = read_descriptor_lem l (points_say l e)

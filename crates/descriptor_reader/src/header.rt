@@ -1,13 +1,14 @@
 // Whether bytes 0 to 27 of a descriptor are right (document 01, "Descriptor").
-ghost use Rattle.std.specs.Prelude.{◌≡◌, length, ◌+◌, ◌≤◌};
-ghost use Rattle.descriptor_samples.specs.Size.{descriptor_size};
+ghost use Rattle.std.specs.Prelude.{◌≡◌, length};
 ghost use Rattle.descriptor_reader.specs.Header.{zeros, header_right, color_right, planes_right};
 
 use crate::number::{number2, number4};
+use descriptor_samples::DESCRIPTOR_SIZE;
+use layout::bytes_known;
 
 // Whether bytes 0 to 11 are right: total size, vendor and type, version, block size.
-pub(crate) fn header_right(bytes: &[u8]) -> bool
-    requires { length bytes.now ≡ descriptor_size }
+#[tactic(auto, unfolding(crate::specs::Header::header_right))]
+pub(crate) fn header_right(bytes: &[u8; DESCRIPTOR_SIZE]) -> bool
     ensures { result ≡ header_right bytes.now }
 {
     (number4(bytes, 0) == 76)
@@ -17,8 +18,8 @@ pub(crate) fn header_right(bytes: &[u8]) -> bool
 }
 
 // Whether bytes 12 to 15 are: model, primaries, transfer, flags.
-pub(crate) fn color_right(bytes: &[u8]) -> bool
-    requires { length bytes.now ≡ descriptor_size }
+#[tactic(auto, unfolding(crate::specs::Header::color_right))]
+pub(crate) fn color_right(bytes: &[u8; DESCRIPTOR_SIZE]) -> bool
     ensures { result ≡ color_right bytes.now }
 {
     parameters::model_known(bytes[12])
@@ -27,25 +28,17 @@ pub(crate) fn color_right(bytes: &[u8]) -> bool
         & (bytes[15] == 0)
 }
 
-// Whether the k bytes from place i on are zero.
-fn all_zero(bytes: &[u8], i: usize, k: usize) -> bool
-    requires { i + k ≤ length bytes.now }
-    ensures { result ≡ zeros bytes.now i k }
+// Whether all of the bytes are zero.
+fn all_zero(bytes: &[u8]) -> bool
+    ensures { result ≡ zeros bytes.now 0 (length bytes.now) }
 {
-    let mut right = true;
-    let mut j: usize = 0;
-    while j < k {
-        right = right & (bytes[i + j] == 0);
-        j += 1;
-    }
-    right
+    bytes.iter().all(|byte| *byte == 0)
 }
 
 // Whether bytes 16 to 27 are: zeros, but for the bytes a point.
-pub(crate) fn planes_right(bytes: &[u8]) -> bool
-    requires { length bytes.now ≡ descriptor_size }
+#[tactic(auto, unfolding(crate::specs::Header::planes_right))]
+pub(crate) fn planes_right(bytes: &[u8; DESCRIPTOR_SIZE]) -> bool
     ensures { result ≡ planes_right bytes.now }
 {
-    let size = bytes[20];
-    all_zero(bytes, 16, 4) & ((3 <= size) & (size <= 8)) & all_zero(bytes, 21, 7)
+    all_zero(&bytes[16..20]) & bytes_known(bytes[20]) & all_zero(&bytes[21..28])
 }

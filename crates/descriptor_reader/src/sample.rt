@@ -1,12 +1,12 @@
 // The samples that a descriptor's bytes hold (document 01, "Descriptor").
 ghost use Rattle.std.specs.Prelude.{◌≡◌, length, ◌+◌, ◌≤◌};
-ghost use Rattle.descriptor_samples.specs.Size.{descriptor_size};
 ghost use Rattle.descriptor_reader.specs.Sample.{sample_in, samples_in};
 
 use crate::number::{number2, number4};
-use descriptor_samples::{Sample, Samples};
+use descriptor_samples::{DESCRIPTOR_SIZE, Sample, Samples};
 
 // The sample that the bytes from place i on hold.
+#[tactic(auto, unfolding(crate::specs::Sample::sample_in))]
 fn sample_in(bytes: &[u8], i: usize) -> Sample
     requires { i + 16 ≤ length bytes.now }
     ensures { result ≡ sample_in bytes.now i }
@@ -22,8 +22,8 @@ fn sample_in(bytes: &[u8], i: usize) -> Sample
 }
 
 // The samples of a descriptor.
-pub(crate) fn samples_in(bytes: &[u8]) -> Samples
-    requires { length bytes.now ≡ descriptor_size }
+#[tactic(auto, unfolding(crate::specs::Sample::samples_in))]
+pub(crate) fn samples_in(bytes: &[u8; DESCRIPTOR_SIZE]) -> Samples
     ensures { result ≡ samples_in bytes.now }
 {
     Samples {

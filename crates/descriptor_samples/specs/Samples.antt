@@ -1,8 +1,8 @@
 -- The three samples of a descriptor by their numbers: document 01, "Descriptor". Assumes nothing.
-use Rattle.std.specs.Prelude.{ℕ, ◌+◌, ◌*◌, Bool, not, cond, ◌&&◌, eqb, leb}
+use Rattle.std.specs.Prelude.{ℕ, ◌+◌, ◌*◌, Bool, not, cond, ◌&&◌, eqb, leb, Option, Some, None}
 use Rattle.parameters.specs.declared.range.Range.{Range}
 use Rattle.parameters.specs.declared.range.Range.TheVariants.{Narrow, Full, LegacyFull}
-use Rattle.parameters.specs.Parameters.{range_number, depth_known, channel_known, kind_of}
+use Rattle.parameters.specs.Parameters.{depth_known, channel_known, kind_of}
 use Rattle.descriptor_samples.specs.declared.sample.Sample.{Sample}
 use Rattle.descriptor_samples.specs.declared.samples.Samples.{Samples}
 use Rattle.descriptor_samples.specs.Limits.{lower_of, upper_of}
@@ -41,10 +41,10 @@ states model range n s = eqb s.lower (lower_of range n) && eqb s.upper (upper_of
 unfoldable pub all_state : ℕ → Range → ℕ → Samples → Bool
 all_state model range n s = states model range n s.first && states model range n s.second && states model range n s.third
 
--- the number of the range that all three state, and 0 if they state no one range
-unfoldable pub range_in : ℕ → ℕ → Samples → ℕ
+-- the range that all three state, or that they state no one range
+unfoldable pub range_in : ℕ → ℕ → Samples → Option Range
 range_in model n s =
-    cond (all_state model Narrow n s) (range_number Narrow)
-    (cond (all_state model Full n s) (range_number Full)
-    (cond (all_state model LegacyFull n s) (range_number LegacyFull)
-    0))
+    cond (all_state model Narrow n s) (Some Narrow)
+    (cond (all_state model Full n s) (Some Full)
+    (cond (all_state model LegacyFull n s) (Some LegacyFull)
+    None))

@@ -17,22 +17,20 @@ impl Limits {
         ensures { result ≡ limits_of range (bits_of depth) kind }
     {
         let s = depth.step();
-        match range {
-            Range::Narrow => match kind {
-                Kind::Brightness => Limits {
-                    lower: 16 * s,
-                    upper: 235 * s,
-                },
-                Kind::Difference => Limits {
-                    lower: 16 * s,
-                    upper: 240 * s,
-                },
+        match (range, kind) {
+            (Range::Narrow, Kind::Brightness) => Limits {
+                lower: 16 * s,
+                upper: 235 * s,
             },
-            Range::Full => Limits {
+            (Range::Narrow, Kind::Difference) => Limits {
+                lower: 16 * s,
+                upper: 240 * s,
+            },
+            (Range::Full, _) => Limits {
                 lower: 0,
                 upper: depth.top(),
             },
-            Range::LegacyFull => Limits {
+            (Range::LegacyFull, _) => Limits {
                 lower: 0,
                 upper: 256 * s,
             },

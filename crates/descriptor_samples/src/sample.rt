@@ -19,14 +19,11 @@ pub struct Sample {
 
 impl Sample {
     // Whether it states a range.
+    #[tactic(auto, unfolding(crate::specs::Samples::states))]
     pub(crate) fn states(self, model: u8, range: Range, depth: Depth) -> bool
         ensures { result ≡ states model range (bits_of depth) self }
     {
         let limits = Limits::of(range, depth, Kind::of(model, self.channel));
-        let lower = limits.lower;
-        let upper = limits.upper;
-        let stated_lower = self.lower;
-        let stated_upper = self.upper;
-        (stated_lower == lower as u32) & (stated_upper == upper as u32)
+        (self.lower == limits.lower as u32) & (self.upper == limits.upper as u32)
     }
 }

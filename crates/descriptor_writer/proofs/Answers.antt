@@ -9,29 +9,21 @@ use Rattle.lists.specs.Lists.{new_or_kept}
 use Rattle.lists.proofs.Tests.{pass, stop}
 use Rattle.layout.specs.declared.Layout.{Layout}
 use Rattle.layout.specs.Layout.{valid_points}
-use Rattle.refusal.specs.declared.Written.{Written}
-use Rattle.refusal.specs.declared.Written.TheVariants.{Done, Refused}
-use Rattle.refusal.specs.Written.{accepted}
+use Rattle.std.specs.Prelude.{Result, Ok, Err, is_ok, ⊤}
+use Rattle.refusal.specs.declared.Refusal.{Refusal}
+use Rattle.refusal.specs.declared.Refusal.TheVariants.{Outside}
 use Rattle.descriptor_writer.specs.Writing.{descriptor_bytes, write_answer, write_output}
 
 module _ (l : Layout) (out : List ℕ) where
-  pub refused_9 : valid_points l ≡ false → Refused 9 ≡ write_answer l (length out)
+  pub refused_9 : valid_points l ≡ false → Err Outside ≡ write_answer l (length out)
   unfolding write_answer
   refused_9 e = sym (stop _ (ap not e))
 
-  pub refused_13 : valid_points l ≡ true → eqb (length out) 76 ≡ false → Refused 13 ≡ write_answer l (length out)
-  unfolding write_answer
-  refused_13 v e = sym (pass _ (ap not v) (stop _ (ap not e)))
-
-  pub done : valid_points l ≡ true → eqb (length out) 76 ≡ true → Done ≡ write_answer l (length out)
+  pub done : valid_points l ≡ true → eqb (length out) 76 ≡ true → (Ok tt) ≡ write_answer l (length out)
   unfolding write_answer
   done v e = sym (pass _ (ap not v) (pass _ (ap not e) refl))
 
   -- what the output then holds
-  pub unchanged : (k : ℕ) → Refused k ≡ write_answer l (length out) → out ≡ write_output l out
+  pub changed : (bytes : List ℕ) → (Ok tt) ≡ write_answer l (length out) → bytes ≡ descriptor_bytes l → bytes ≡ write_output l out
   unfolding write_output
-  unchanged k e = ap (λ (a : Written). new_or_kept (accepted a) (descriptor_bytes l) out) e
-
-  pub changed : (bytes : List ℕ) → Done ≡ write_answer l (length out) → bytes ≡ descriptor_bytes l → bytes ≡ write_output l out
-  unfolding write_output
-  changed bytes e q = q ∙ ap (λ (a : Written). new_or_kept (accepted a) (descriptor_bytes l) out) e
+  changed bytes e q = q ∙ ap (λ (a : Result ⊤ Refusal). new_or_kept (is_ok a) (descriptor_bytes l) out) e

@@ -11,7 +11,8 @@ pub struct Field {
     pub offset: u8,
 }
 
-// All three, in rising bit offset.
+// All three, in rising bit offset. A type of its own and not one with `Samples` that is generic in what it holds: nothing is done
+// to both.
 #[derive(Clone, Copy)]
 pub struct Fields {
     pub first: Field,
@@ -20,62 +21,42 @@ pub struct Fields {
 }
 
 impl Fields {
-    // The fields of a layout.
+    // The fields of a layout: the lower of the first two and the higher, and the third before, between or after them. (std's sort
+    // keeps two of one offset as they stand, and the definition puts the later first.)
+    #[tactic(auto, unfolding(crate::specs::Field::fields_of, crate::specs::Field::rising))]
     pub(crate) fn of(layout: Layout) -> Fields
         ensures { result ≡ fields_of layout }
     {
-        let x = layout.offset0;
-        let y = layout.offset1;
-        let z = layout.offset2;
         let a = Field {
             channel: 0,
-            offset: x,
+            offset: layout.offset0,
         };
         let b = Field {
             channel: 1,
-            offset: y,
+            offset: layout.offset1,
         };
         let c = Field {
             channel: 2,
-            offset: z,
+            offset: layout.offset2,
         };
-        if x < y {
-            if y < z {
-                Fields {
-                    first: a,
-                    second: b,
-                    third: c,
-                }
-            } else if x < z {
-                Fields {
-                    first: a,
-                    second: c,
-                    third: b,
-                }
-            } else {
-                Fields {
-                    first: c,
-                    second: a,
-                    third: b,
-                }
-            }
-        } else if x < z {
+        let (low, high) = if a.offset < b.offset { (a, b) } else { (b, a) };
+        if high.offset < c.offset {
             Fields {
-                first: b,
-                second: a,
+                first: low,
+                second: high,
                 third: c,
             }
-        } else if y < z {
+        } else if low.offset < c.offset {
             Fields {
-                first: b,
+                first: low,
                 second: c,
-                third: a,
+                third: high,
             }
         } else {
             Fields {
                 first: c,
-                second: b,
-                third: a,
+                second: low,
+                third: high,
             }
         }
     }

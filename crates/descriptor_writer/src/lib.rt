@@ -4,30 +4,37 @@
 ghost use Rattle.std.specs.Prelude.{◌≡◌, length};
 ghost use Rattle.descriptor_writer.specs.Writing.{write_answer, write_output};
 
+use crate::parts::{front_bytes, sample_bytes};
+use crate::sample::samples_of;
+use crate::store::put;
 use descriptor_samples::DESCRIPTOR_SIZE;
 use layout::Layout;
-use refusal::Written;
+use refusal::Refusal;
 
 mod field;
 mod numbers;
 mod parts;
+mod sample;
 mod store;
 
 pub use field::{Field, Fields};
 
 // Writes the descriptor of a layout. Refused: 9, also for groups (request A6), then 13; `out` is then as it was.
-pub fn write(layout: Layout, out: &mut [u8]) -> Written
+#[tactic(auto, unfolding(crate::specs::Writing::write_answer, crate::specs::Writing::write_output))]
+pub fn write(layout: Layout, out: &mut [u8]) -> Result<(), Refusal>
     ensures answer { result ≡ write_answer layout (length out.old) }
     ensures memory { out.new ≡ write_output layout out.old }
 {
     if !layout.valid_points() {
-        return Written::Refused(refusal::OUTSIDE);
+        return Err(Refusal::Outside);
     }
     if out.len() != DESCRIPTOR_SIZE {
-        return Written::Refused(refusal::WRONG_LINE_OR_OUTPUT);
+        return Err(Refusal::WrongLineOrOutput);
     }
-    let header = parts::front_bytes(layout);
-    store::put(&header, 0, out);
-    store::put_samples(layout, out);
-    Written::Done
+    let samples = samples_of(layout);
+    put(&front_bytes(layout), 0, out);
+    put(&sample_bytes(samples.first), 28, out);
+    put(&sample_bytes(samples.second), 44, out);
+    put(&sample_bytes(samples.third), 60, out);
+    Ok(())
 }

@@ -1,77 +1,38 @@
 // The parts of a descriptor as bytes (document 01, "Descriptor").
-ghost use Rattle.std.specs.Prelude.{◌≡◌, true};
-ghost use Rattle.parameters.specs.Parameters.{depth_known};
-ghost use Rattle.descriptor_writer.specs.Sample.{sample_bytes, sample_of};
+ghost use Rattle.std.specs.Prelude.{◌≡◌};
+ghost use Rattle.descriptor_writer.specs.Sample.{sample_bytes};
 ghost use Rattle.descriptor_writer.specs.Writing.{front_bytes};
 
-use crate::field::Field;
-use crate::numbers::{depth_of, range_of};
-use descriptor_samples::Limits;
+use descriptor_samples::Sample;
 use layout::Layout;
-use parameters::Kind;
 
 // Bytes 0 to 27 of a layout's descriptor.
+#[tactic(auto, unfolding(crate::specs::Writing::front_bytes, lists::specs::Bytes::bytes_of))]
 pub(crate) fn front_bytes(layout: Layout) -> [u8; 28]
     ensures { result ≡ front_bytes layout }
 {
-    [
-        76,
-        0,
-        0,
-        0,
-        0,
-        0,
-        0,
-        0,
-        1,
-        0,
-        72,
-        0,
-        layout.model,
-        layout.primaries,
-        3,
-        0,
-        0,
-        0,
-        0,
-        0,
-        layout.bytes,
-        0,
-        0,
-        0,
-        0,
-        0,
-        0,
-        0,
-    ]
+    let mut bytes = [0; 28];
+    bytes[0] = 76;
+    bytes[8] = 1;
+    bytes[10] = 72;
+    bytes[12] = layout.model;
+    bytes[13] = layout.primaries;
+    bytes[14] = 3;
+    bytes[20] = layout.bytes;
+    bytes
 }
 
-// The bytes of a field's sample.
-pub(crate) fn sample_bytes(layout: Layout, field: Field) -> [u8; 16]
-    requires { depth_known layout.depth ≡ true }
-    ensures { result ≡ sample_bytes (sample_of layout field) }
+// A sample's bytes.
+#[tactic(auto, unfolding(crate::specs::Sample::sample_bytes))]
+pub(crate) fn sample_bytes(sample: Sample) -> [u8; 16]
+    ensures { result ≡ sample_bytes sample }
 {
-    let kind = Kind::of(layout.model, field.channel);
-    let limits = Limits::of(range_of(layout.range), depth_of(layout.depth), kind);
-    let depth = layout.depth;
-    let lower = limits.lower;
-    let upper = limits.upper;
-    [
-        field.offset,
-        0,
-        depth - 1,
-        field.channel,
-        0,
-        0,
-        0,
-        0,
-        (lower % 256) as u8,
-        (lower / 256) as u8,
-        0,
-        0,
-        (upper % 256) as u8,
-        (upper / 256) as u8,
-        0,
-        0,
-    ]
+    let mut bytes = [0; 16];
+    bytes[..2].copy_from_slice(&sample.offset.to_le_bytes());
+    bytes[2] = sample.length;
+    bytes[3] = sample.channel;
+    bytes[4..8].copy_from_slice(&sample.position.to_le_bytes());
+    bytes[8..12].copy_from_slice(&sample.lower.to_le_bytes());
+    bytes[12..].copy_from_slice(&sample.upper.to_le_bytes());
+    bytes
 }

@@ -18,12 +18,12 @@ use Rattle.line.specs.Point.{point_of}
 use Rattle.layout.proofs.Facts.{valid-points, not_grouped}
 use Rattle.line.proofs.Points.{point_inside, code_at_lem}
 use Rattle.line.proofs.Own.{own_bytes, own_code}
-use Rattle.field.specs.declared.FieldCode.{FieldCode}
-use Rattle.field.specs.declared.FieldCode.TheVariants.{Code, Refused}
 use Rattle.field.specs.Field.{field_of, field_bytes}
 use Rattle.field.specs.Answer.{field_known, code_answer, bytes_answer}
 use Rattle.field.specs.Claims.{HoldsInOneToThreeBytes, HoldsAllAndOnlyTheField, ReadsTheFieldOfThePoint, ReadsEachCodeOfALine, RefusesOtherLengths, ReadsCodesOfTheDepth, RefusesGroups}
 use Rattle.field.proofs.Bits.{bits-part}
+use Rattle.std.specs.Prelude.{Result, Ok, Err}
+use Rattle.refusal.specs.declared.Refusal.{Refusal}
 use Rattle.field.proofs.Facts.{Placed, placed}
 
 placed_by : (l : Layout) (channel : ℕ) → field_known l channel ≡ true → Placed l channel
@@ -45,7 +45,7 @@ reads_the_field_of_the_point l channel point k bytes long =
     let p = placed_by l channel k in
     let f = field_of l channel in
     let count : length (field_bytes f point) ≡ f.count = length-take f.count (drop f.first point) ∙ ap (min f.count) (length-drop f.first point) ∙ omega (arith, p.inside, long) in
-    pass _ (ap not k) (pass _ (ap not (eq-eqb _ _ count)) (ap Code (bits-part point _ _ _ _ _ bytes p.begins p.ends)))
+    pass _ (ap not k) (pass _ (ap not (eq-eqb _ _ count)) (ap Ok (bits-part point _ _ _ _ _ bytes p.begins p.ends)))
 
 pub reads_each_code_of_a_line : ReadsEachCodeOfALine
 unfolding point_of
@@ -56,16 +56,16 @@ reads_each_code_of_a_line l n s line own i channel hi hc =
     let known : field_known l channel ≡ true = ap₂ ◌&&◌ (valid-points l line.valid own) (lt-ltb channel 3 hc) in
     let are = every_take (λ x. ltb x 256) 0 rest b (every_drop (λ x. ltb x 256) 0 s (i * b) line.bytes) in
     let long : length (take b rest) ≡ b = length-take b rest ∙ ap (min b) (length-drop (i * b) s) ∙ omega (arith, point_inside i n b hi, points, mul_comm b n) in
-    reads_the_field_of_the_point l channel (take b rest) known are long ∙ ap Code (code_at_lem l s i channel hc ∙ sym (own_code l own s (3 * i + channel)))
+    reads_the_field_of_the_point l channel (take b rest) known are long ∙ ap Ok (code_at_lem l s i channel hc ∙ sym (own_code l own s (3 * i + channel)))
 
 pub refuses_other_lengths : RefusesOtherLengths
 unfolding code_answer
 refuses_other_lengths l channel bytes k e = pass _ (ap not k) (stop _ (ap not e))
 
 -- the code of an answer, if it is one
-abbrev Within : ℕ → FieldCode → Type 0
-Within top (Code c) = c ≤ top
-Within top (Refused k) = Unit
+abbrev Within : ℕ → Result ℕ Refusal → Type 0
+Within top (Ok c) = c ≤ top
+Within top (Err k) = Unit
 
 within : (l : Layout) (channel : ℕ) (bytes : List ℕ) → Within (top_of l.depth) (code_answer l channel bytes)
 unfolding code_answer

@@ -2,7 +2,7 @@
 use mathlib.Core.Path.{◌≡◌, refl, sym, ap, ap₂, ◌∙◌}
 use mathlib.Core.Bool.{Bool, true, false}
 use mathlib.Core.List.{List, [], ◌∷◌}
-use Prim.Native.Nat.{ℕ, ◌+◌, ◌*◌, ◌%◌, ◌^◌, ◌≤◌}
+use Prim.Native.Nat.{ℕ, ◌+◌, ◌*◌, ◌%◌, ◌^◌, ◌≤◌, ◌<◌}
 use native.Mathlib.Nat.{zero-div, zero-mod}
 use native.Mathlib.Omega.{arith}
 use borrow.Author.Tests.{eqb-true, ne_eqb}
@@ -25,11 +25,11 @@ module _ (f : Field) where
   read_none [] e = sym (ap (λ (m : ℕ). m % 2 ^ (f.bits % 16)) (zero-div (2 ^ (f.from % 32))) ∙ zero-mod (2 ^ (f.bits % 16)))
   read_none (b ∷ bs) e = absurd (omega arith)
 
-  pub read_one : (bs : List ℕ) → length bs ≡ 1 → get_or bs 0 0 % 256 ≡ read_code f bs
+  pub read_one : (bs : List ℕ) → length bs ≡ 1 → get_or bs 0 0 < 256 → get_or bs 0 0 ≡ read_code f bs
   unfolding read_code little
-  read_one [] e = absurd (omega arith)
-  read_one (b ∷ []) e = omega arith
-  read_one (b ∷ c ∷ bs) e = absurd (omega arith)
+  read_one [] e h = absurd (omega arith)
+  read_one (b ∷ []) e h = omega arith
+  read_one (b ∷ c ∷ bs) e h = absurd (omega arith)
 
   -- the numbers of two bytes and of three
   pub read_two : (bs : List ℕ) → length bs ≡ 2 → bits (f.bits % 16) (f.from % 32) (get_or bs 0 0 + get_or bs 1 0 * 256) ≡ read_code f bs
@@ -39,13 +39,12 @@ module _ (f : Field) where
   read_two (b ∷ c ∷ []) e = ap (bits (f.bits % 16) (f.from % 32)) (omega arith)
   read_two (b ∷ c ∷ d ∷ bs) e = absurd (omega arith)
 
-  pub read_three : (bs : List ℕ) → (length bs ≡ 0 → ⊥) → (length bs ≡ 1 → ⊥) → (length bs ≡ 2 → ⊥)
-      → bits (f.bits % 16) (f.from % 32) (get_or bs 0 0 + get_or bs 1 0 * 256 + get_or bs 2 0 * 65536) ≡ read_code f bs
+  pub read_three : (bs : List ℕ) → 3 ≤ length bs → bits (f.bits % 16) (f.from % 32) (get_or bs 0 0 + get_or bs 1 0 * 256 + get_or bs 2 0 * 65536) ≡ read_code f bs
   unfolding read_code little
-  read_three [] a b c = absurd (a refl)
-  read_three (x ∷ []) a b c = absurd (b refl)
-  read_three (x ∷ y ∷ []) a b c = absurd (c refl)
-  read_three (x ∷ y ∷ z ∷ bs) a b c = sym (pass _ (ne_eqb (length (x ∷ y ∷ z ∷ bs)) 1 b) (ap (bits (f.bits % 16) (f.from % 32)) (omega arith)))
+  read_three [] h = absurd (omega arith)
+  read_three (x ∷ []) h = absurd (omega arith)
+  read_three (x ∷ y ∷ []) h = absurd (omega arith)
+  read_three (x ∷ y ∷ z ∷ bs) h = sym (pass _ (ne_eqb (length (x ∷ y ∷ z ∷ bs)) 1 (λ e. omega arith)) (ap (bits (f.bits % 16) (f.from % 32)) (omega arith)))
 
 -- in a layout's field a single byte is a whole field, and three are all that there are
 pub read_is : (l : Layout) (channel : ℕ) (bs : List ℕ) → valid_points l ≡ true → length bs ≡ (field_of l channel).count → read_code (field_of l channel) bs ≡ field_code (field_of l channel) bs

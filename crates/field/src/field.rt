@@ -21,49 +21,11 @@ pub struct Field {
 fn offset_of(layout: Layout, channel: u8) -> u8
     ensures { result ≡ offset_of layout channel }
 {
-    if channel == 0 {
-        layout.offset0
-    } else if channel == 1 {
-        layout.offset1
-    } else {
-        layout.offset2
+    match channel {
+        0 => layout.offset0,
+        1 => layout.offset1,
+        _ => layout.offset2,
     }
-}
-
-// One less, and no less than 0.
-fn less_one(n: u8) -> u8
-    ensures { result ≡ n - 1 }
-{
-    if n == 0 { 0 } else { n - 1 }
-}
-
-// A byte as a wider number.
-fn wide(byte: u8) -> u32
-    ensures { (result ≡ byte) × (result < 256) }
-{
-    byte as u32
-}
-
-// The numbers of two bytes and of three, the lowest first.
-fn two(bytes: &[u8]) -> u32
-    requires { 2 ≤ length bytes.now }
-    ensures { result ≡ get_or bytes.now 0 0 + get_or bytes.now 1 0 * 256 }
-{
-    wide(bytes[0]) + wide(bytes[1]) * 256
-}
-
-fn three(bytes: &[u8]) -> u32
-    requires { 3 ≤ length bytes.now }
-    ensures { result ≡ get_or bytes.now 0 0 + get_or bytes.now 1 0 * 256 + get_or bytes.now 2 0 * 65536 }
-{
-    wide(bytes[0]) + wide(bytes[1]) * 256 + wide(bytes[2]) * 65536
-}
-
-// A byte that is a whole field: its bits 0 to 7.
-fn whole(byte: u8) -> u16
-    ensures { result ≡ byte % 256 }
-{
-    byte as u16
 }
 
 impl Field {
@@ -72,7 +34,7 @@ impl Field {
         ensures { result ≡ field_at offset bits }
     {
         let from = offset % 8;
-        let more = less_one(bits);
+        let more = bits.saturating_sub(1);
         Field {
             first: (offset / 8) as usize,
             count: (from as usize + more as usize) / 8 + 1,
@@ -104,15 +66,13 @@ impl Field {
     pub fn code(self, bytes: &[u8]) -> u16
         ensures { result ≡ read_code self bytes.now }
     {
-        let count = bytes.len();
-        if count == 1 {
-            whole(bytes[0])
-        } else if count == 2 {
-            self.cut(two(bytes))
-        } else if count == 0 {
-            0
-        } else {
-            self.cut(three(bytes))
+        match bytes {
+            [] => 0,
+            [byte] => u16::from(*byte),
+            [low, high] => self.cut(u32::from(*low) + u32::from(*high) * 256),
+            [low, middle, high, ..] => {
+                self.cut(u32::from(*low) + u32::from(*middle) * 256 + u32::from(*high) * 65536)
+            }
         }
     }
 }

@@ -6,24 +6,11 @@ ghost use Rattle.field.specs.Answer.{field_known, code_answer, bytes_answer};
 ghost use Rattle.field.specs.inner.Read.{one_count};
 
 use layout::Layout;
+use refusal::Refusal;
 
 mod field;
 
 pub use field::Field;
-
-// A code, or the refusal's number.
-#[derive(Clone, Copy)]
-pub enum FieldCode {
-    Code(u16),
-    Refused(u8),
-}
-
-// Which bytes of a point hold a field, or the refusal's number.
-#[derive(Clone, Copy)]
-pub enum FieldBytes {
-    Held(Field),
-    Refused(u8),
-}
 
 // Whether the paper has the layout, of points of their own, and the layout such a channel.
 fn known(layout: Layout, channel: u8) -> bool
@@ -33,27 +20,27 @@ fn known(layout: Layout, channel: u8) -> bool
 }
 
 // The code of a channel, in just the bytes that hold its field. A group has no field of one point. Refused: 9, then 13.
-pub fn field_code(layout: Layout, channel: u8, bytes: &[u8]) -> FieldCode
+pub fn field_code(layout: Layout, channel: u8, bytes: &[u8]) -> Result<u16, Refusal>
     ensures { result ≡ code_answer layout channel bytes.now }
 {
     if !known(layout, channel) {
-        return FieldCode::Refused(refusal::OUTSIDE);
+        return Err(Refusal::Outside);
     }
     let field = Field::of(layout, channel);
     if bytes.len() != field.count {
-        return FieldCode::Refused(refusal::WRONG_LINE_OR_OUTPUT);
+        return Err(Refusal::WrongLineOrOutput);
     }
-    FieldCode::Code(field.code(bytes))
+    Ok(field.code(bytes))
 }
 
 // The bytes of a point that hold the field of a channel. Refused: 9.
-pub fn field_bytes(layout: Layout, channel: u8) -> FieldBytes
+pub fn field_bytes(layout: Layout, channel: u8) -> Result<Field, Refusal>
     ensures { result ≡ bytes_answer layout channel }
 {
     if known(layout, channel) {
-        FieldBytes::Held(Field::of(layout, channel))
+        Ok(Field::of(layout, channel))
     } else {
-        FieldBytes::Refused(refusal::OUTSIDE)
+        Err(Refusal::Outside)
     }
 }
 

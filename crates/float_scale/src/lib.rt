@@ -23,30 +23,23 @@ pub fn ends(scale: Scale) -> Ends
 {
     let low = scale.low;
     let high = scale.high;
-    let rounding = scale.rounding;
-    match rounding {
-        Rounding::HalfUp => Ends {
-            low,
-            high,
-            strict: false,
-        },
-        Rounding::HalfAway => Ends {
-            low,
-            high,
-            strict: true,
-        },
-    }
+    let strict = match scale.rounding {
+        Rounding::HalfUp => false,
+        Rounding::HalfAway => true,
+    };
+    Ends { low, high, strict }
 }
 
-// The scale in f64: the span, base + 1/2 with 4096 more, and the ends.
-pub fn floats(scale: Scale) -> FloatScale
-    ensures { result ≡ float_scale scale }
-{
-    let ends = ends(scale);
-    FloatScale {
-        span: scale.span as f64,
-        middle: (2 * scale.base as u32 + 8193) as f64 * 0.5,
-        ends: ends.floats(),
+impl From<Scale> for FloatScale {
+    ghost from_gives = { λ scale r. r ≡ float_scale scale };
+
+    // The scale in f64: the span, base + 1/2 with 4096 more, and the ends.
+    fn from(scale: Scale) -> FloatScale {
+        FloatScale {
+            span: scale.span as f64,
+            middle: (2 * scale.base as u32 + 8193) as f64 * 0.5,
+            ends: FloatEnds::from(ends(scale)),
+        }
     }
 }
 

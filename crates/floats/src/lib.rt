@@ -63,14 +63,14 @@ fn whole(t: f64) -> u16
     (f64::to_bits(t) / UNITS % 4096) as u16
 }
 
-impl Ends {
+impl From<Ends> for FloatEnds {
+    ghost from_gives = { λ ends r. r ≡ in_floats ends };
+
     // The ends in f64. (No code has more than 12 bits; the remainder is there for any other.)
-    pub fn floats(self) -> FloatEnds
-        ensures { result ≡ in_floats self }
-    {
+    fn from(ends: Ends) -> FloatEnds {
         FloatEnds {
-            first: in_units(((self.low % 4096) as u64 + 4096) * UNITS + self.strict as u64),
-            high: self.high,
+            first: in_units(((ends.low % 4096) as u64 + 4096) * UNITS + ends.strict as u64),
+            high: ends.high,
         }
     }
 }

@@ -5,7 +5,6 @@ ghost use Rattle.std.specs.Prelude.{◌≡◌};
 ghost use Rattle.full_rgb.specs.inner.Way.{rgb_way, ycbcr_way, way_of, full_by};
 
 use color_line::FloatRows;
-use color_rows::KnownConversion;
 use layout::Layout;
 use parameters::Depth;
 
@@ -13,7 +12,7 @@ mod stretch;
 
 pub use stretch::Stretch;
 
-// The numbers of Y'CbCr, of narrow range and of full range.
+// The paper's numbers of Y'CbCr, of narrow range and of full range: numbers, since a layout has them so, as C hands it over.
 const YCBCR: u8 = 2;
 
 const NARROW: u8 = 1;
@@ -45,11 +44,8 @@ fn of_ycbcr(layout: Layout, depth: Depth) -> Way
 {
     let range = layout.range;
     match color_rows::to_rgb(layout.primaries, layout.depth, range, FULL) {
-        KnownConversion::Known(conversion) => {
-            let rows = conversion.rows;
-            Way::Rows(rows)
-        }
-        KnownConversion::Unknown => of_rgb(range, depth),
+        Some(conversion) => Way::Rows(conversion.rows),
+        None => of_rgb(range, depth),
     }
 }
 

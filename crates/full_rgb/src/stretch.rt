@@ -58,12 +58,8 @@ fn stretched(s: Stretch, code: u16) -> u16
     ensures { result ≡ stretched_by s code }
 {
     let more = (s.times as u32 * code as u32 + s.plus as u32) / 1168;
-    let sum = code as u32 + more;
-    let less = s.less as u32;
-    let above = if sum < less { 0 } else { sum - less };
-    let top = s.top as u32;
-    let least = if above < top { above } else { top };
-    least as u16
+    let above = (code as u32 + more).saturating_sub(s.less as u32);
+    above.min(s.top as u32) as u16
 }
 
 // Every code of a line.
@@ -74,9 +70,7 @@ pub(crate) fn each(stretch: Stretch, codes: &[u16], out: &mut [u16])
     if !((n % 3 == 0) & (out.len() == n)) {
         return;
     }
-    let mut i = 0;
-    while i < n {
-        out[i] = stretched(stretch, codes[i]);
-        i += 1;
+    for (i, made) in out.iter_mut().enumerate() {
+        *made = stretched(stretch, codes[i]);
     }
 }

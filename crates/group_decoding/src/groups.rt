@@ -7,8 +7,8 @@ ghost use Rattle.scales.specs.inner.Fitted.{Fitted};
 ghost use Rattle.line_values.specs.Decode.{value_at, values_of};
 
 use layout::Layout;
+use parameters::Channels;
 use scale::Scale;
-use scales::Scales;
 
 // The value of a byte of the line.
 fn value_at(scale: Scale, packed: &[u8], at: usize) -> f32
@@ -19,7 +19,7 @@ fn value_at(scale: Scale, packed: &[u8], at: usize) -> f32
 }
 
 // Stores the six values of group i: both points take its colour. (The layout is there for the contract alone.)
-fn put(layout: Layout, scales: Scales, packed: &[u8], out: &mut [f32], i: usize)
+fn put(layout: Layout, scales: Channels<Scale>, packed: &[u8], out: &mut [f32], i: usize)
     requires layout_value { (valid_groups layout ≡ true) × Fitted layout scales }
     requires i_in_bounds { (4 * i + 4 ≤ length packed.now) × (6 * i + 6 ≤ length out.old) }
     ensures { out.new ≡ written out.old (6 * i) (λ j. value_at layout packed.now (6 * i + j)) 6 }
@@ -39,14 +39,12 @@ fn put(layout: Layout, scales: Scales, packed: &[u8], out: &mut [f32], i: usize)
 }
 
 // The values of a line of n groups.
-pub(crate) fn all(layout: Layout, scales: Scales, packed: &[u8], out: &mut [f32], n: usize)
+pub(crate) fn all(layout: Layout, scales: Channels<Scale>, packed: &[u8], out: &mut [f32], n: usize)
     requires layout_value { (valid_groups layout ≡ true) × Fitted layout scales }
     requires packed_len { (length packed.now ≡ 4 * n) × (length out.old ≡ 6 * n) }
     ensures { out.new ≡ values_of layout packed.now }
 {
-    let mut i = 0;
-    while i < n {
+    for i in 0..n {
         put(layout, scales, packed, out, i);
-        i += 1;
     }
 }

@@ -2,34 +2,29 @@
 // channel order (request A6).
 #![tactic(auto)]
 
-ghost use Rattle.std.specs.Prelude.{◌≡◌, length};
-ghost use Rattle.line.specs.declared.LineAnswer.TheVariants.{Refused};
+ghost use Rattle.std.specs.Prelude.{◌≡◌, Err, length};
 ghost use Rattle.line.specs.Answer.{of_groups};
-ghost use Rattle.refusal.specs.Refusal.{outside};
 ghost use Rattle.line_values.specs.Decode.{decode_answer, decode_output};
 
 use layout::Layout;
-use line::LineAnswer;
-use scales::{LayoutScales, Scales};
+use refusal::Refusal;
 
 mod groups;
 
 // Decodes a line of groups to values: both points of a group take its colour. A layout of points of their own is refused as one
 // that the paper has not. Refused: 9, then 13.
-pub fn decode_groups(layout: Layout, packed: &[u8], out: &mut [f32]) -> LineAnswer
-    ensures answer { result ≡ of_groups layout (decode_answer layout (length packed.now) (length out.old)) (Refused outside) }
+pub fn decode_groups(layout: Layout, packed: &[u8], out: &mut [f32]) -> Result<usize, Refusal>
+    ensures answer { result ≡ of_groups layout (decode_answer layout (length packed.now) (length out.old)) (Err Refusal.Outside) }
     ensures memory { out.new ≡ of_groups layout (decode_output layout packed.now out.old) out.old }
 {
     if !layout.grouped() {
-        return LineAnswer::Refused(refusal::OUTSIDE);
+        return Err(Refusal::Outside);
     }
-    let LayoutScales::Known(scales) = Scales::of_groups(layout) else {
-        return LineAnswer::Refused(refusal::OUTSIDE);
-    };
+    let scales = scales::of_groups(layout).ok_or(Refusal::Outside)?;
     let n = packed.len() / 4;
     if !((packed.len() % 4 == 0) & (2 * n <= line::MOST_POINTS) & (out.len() == 3 * (2 * n))) {
-        return LineAnswer::Refused(refusal::WRONG_LINE_OR_OUTPUT);
+        return Err(Refusal::WrongLineOrOutput);
     }
     groups::all(layout, scales, packed, out, n);
-    LineAnswer::Points(2 * n)
+    Ok(2 * n)
 }

@@ -1,18 +1,16 @@
 -- A line of values, quantized and packed group by group, and its cuts counted. Assumes nothing.
-use mathlib.Core.Path.{◌≡◌, refl, sym, ap, ap₂, ◌∙◌, subst}
+use mathlib.Core.Path.{◌≡◌, refl, sym, ap, ap₂, ◌∙◌}
 use mathlib.Core.Bool.{Bool, true, false, not, ◌&&◌}
 use mathlib.Core.List.{List}
 use Prim.Native.Nat.{ℕ, zero, suc, ◌+◌, ◌*◌, ◌/◌, ◌%◌, ◌^◌, ◌≤◌, ◌<◌}
 use native.Mathlib.Nat.{add-zero}
 use native.Mathlib.Omega.{arith}
-use lib.Dec.{T}
 use lib.Ieee.{Float, nan, is_nan}
 use lib.ListN.{length, get_or}
 use mir.Val.{bool_byte}
-use Rattle.lists.specs.Lists.{one_if, count, tabulate}
+use Rattle.lists.specs.Lists.{one_if, count}
 use Rattle.lists.specs.Bytes.{byte_of}
 use Rattle.lists.proofs.Counts.{count_le, count_next}
-use Rattle.lists.proofs.Filled.{Filled, filled_all}
 use Rattle.fractions.specs.declared.Clamped.{Clamped}
 use Rattle.layout.specs.declared.Layout.{Layout}
 use Rattle.parameters.specs.Parameters.{range_of, kind_of}
@@ -21,15 +19,15 @@ use Rattle.layout.proofs.Facts.{groups_valid, groups_say}
 use Rattle.scale.specs.declared.Scale.{Scale}
 use Rattle.scale.specs.Scale.{scale_of}
 use Rattle.scales.specs.Channel.{scale_at}
-use Rattle.quantization.specs.declared.code.Coded.TheVariants.{Code}
 use Rattle.quantization.specs.Code.{code_of}
 use Rattle.line.specs.Group.{code_of_byte, group_byte}
-use Rattle.line.specs.inner.Groups.{group_shared, groups_packed}
+use Rattle.line.specs.inner.Groups.{group_shared}
 use Rattle.line.proofs.Grouped.{group_looked}
 use Rattle.line.proofs.Points.{code_lt}
 use Rattle.line_values.specs.Encode.{quantized_of, value_cut, cuts_of, all_numbers}
 use Rattle.line_values.proofs.Encodes.{number_at, length-quantized, quantized-within, placed}
 use Rattle.group_encoding.specs.inner.Groups.{group_number, counted_cut}
+use Rattle.std.specs.Prelude.{Some}
 use Rattle.group_encoding.proofs.Looked.{first_four, last_two, length-shared, shared-first}
 
 -- and its Cb and Cr are differences, on one scale
@@ -52,10 +50,6 @@ module _ (l : Layout) (vs : List Float) where
   pub cuts_none : 0 ≡ count (6 * 0) cut
   unfolding count
   cuts_none = refl
-
-  -- up to a group, told otherwise
-  pub cuts_on : {x i k : ℕ} → x ≡ count (6 * i) cut → i ≡ k → x ≡ count (6 * k) cut
-  cuts_on e f = e ∙ ap (λ (n : ℕ). count (6 * n) cut) f
 
   pub cuts_le : (i : ℕ) → count (6 * i) cut ≤ 6 * i
   cuts_le i = count_le (6 * i) cut
@@ -91,12 +85,11 @@ module _ (l : Layout) (vs : List Float) where
         )
 
     -- a value that is looked at is a number
-    pub looked-number : (k i j : ℕ) → k ≡ 6 * i + j → j < 4 → k < length vs → all_numbers (group_shared nan vs) ≡ true → T (not (is_nan (get_or vs k nan)))
-    looked-number k i j e h f n =
-        subst (λ (v : Float). T (not (is_nan v))) (shared-first nan vs k i j e h f) (number_at (group_shared nan vs) k n (omega (arith, length-shared nan vs)))
+    pub looked-number : (k i j : ℕ) → k ≡ 6 * i + j → j < 4 → k < length vs → all_numbers (group_shared nan vs) ≡ true → is_nan (get_or vs k nan) ≡ false
+    looked-number k i j e h f n = ap is_nan (sym (shared-first nan vs k i j e h f)) ∙ number_at (group_shared nan vs) k n (omega (arith, length-shared nan vs))
 
     -- what was worked out of it on the scale of its channel, j, is its code
-    pub coded : (k j : ℕ) (sc : Scale) (r : Clamped) → k % 3 ≡ j → sc ≡ scale_at l j → k < length vs → Code r ≡ code_of sc (get_or vs k nan) → IsCode k r
+    pub coded : (k j : ℕ) (sc : Scale) (r : Clamped) → k % 3 ≡ j → sc ≡ scale_at l j → k < length vs → Some r ≡ code_of sc (get_or vs k nan) → IsCode k r
     coded k j sc r m f h e =
         let p : 3 * (k / 3) + j ≡ k = omega arith in
         let q = placed l vs (groups_valid l ok) (k / 3) j sc r f (omega arith) (omega arith) (e ∙ ap (λ (n : ℕ). code_of sc (get_or vs n nan)) (sym p)) in
@@ -131,12 +124,6 @@ module _ (cs : List ℕ) where
       go (suc (suc zero)) h = all.2
       go (suc (suc (suc zero))) h = all.3
       go (suc (suc (suc (suc j)))) h = absurd (omega arith)
-
-  -- all groups
-  pub bytes-all : (out xs : List ℕ) (i n : ℕ) → i ≡ n → length cs ≡ 6 * n → length out ≡ 4 * n → Filled out (group_byte cs) (4 * i) xs → xs ≡ groups_packed cs
-  bytes-all out xs i n e es eo f =
-      let d : 4 * i ≡ 4 * (length cs / 6) = omega arith in
-      filled_all 0 (omega arith) f ∙ ap (λ (m : ℕ). tabulate m (group_byte cs)) d
 
 -- of the codes of a line of values: each fits a byte
 pub quantized-bytes : (l : Layout) (vs : List Float) → valid_groups l ≡ true → (i j v : ℕ) → 6 * i + 6 ≤ length vs → v ≡ group_number (quantized_of l vs) i → j < 4

@@ -29,10 +29,8 @@ pub(crate) fn all_numbers(values: &[f32], n: usize) -> bool
     ensures { result ≡ all_numbers (group_shared nan values.now) }
 {
     let mut ok = true;
-    let mut i = 0;
-    while i < n {
+    for i in 0..n {
         ok = ok & group_numbers(values, i);
-        i += 1;
     }
     ok
 }

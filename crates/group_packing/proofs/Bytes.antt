@@ -32,8 +32,8 @@ module _ (cs : List ℕ) where
       filled_all 0 (omega arith) f ∙ ap (λ (m : ℕ). tabulate m (group_byte cs)) e
 
 -- the four bytes of a group, stored
-pub four_bytes : (cs xs ys : List ℕ) (i y cb cr y' : ℕ) → y ≡ get_or cs (6 * i) 0 → cb ≡ get_or cs (6 * i + 1) 0 → cr ≡ get_or cs (6 * i + 2) 0 → y' ≡ get_or cs (6 * i + 3) 0
-    → ys ≡ set (set (set (set xs (4 * i) cb) (4 * i + 1) y) (4 * i + 2) cr) (4 * i + 3) y'
-    → ys ≡ written xs (4 * i) (λ j. get_or cs (6 * i + code_of_byte j) 0) 4
+pub four_bytes : (cs xs : List ℕ) (i : ℕ)
+    → set (set (set (set xs (4 * i) (get_or cs (6 * i + 1) 0)) (4 * i + 1) (get_or cs (6 * i) 0)) (4 * i + 2) (get_or cs (6 * i + 2) 0)) (4 * i + 3) (get_or cs (6 * i + 3) 0)
+    ≡ written xs (4 * i) (λ j. get_or cs (6 * i + code_of_byte j) 0) 4
 unfolding written
-four_bytes cs xs ys i y cb cr y' e0 e1 e2 e3 f = rw (f, e0, e1, e2, e3, add-zero (4 * i), add-zero (6 * i))
+four_bytes cs xs i = rw (add-zero (4 * i), add-zero (6 * i))

@@ -31,12 +31,8 @@ module _ (s : List ℕ) where
       let e : 6 * i ≡ 6 * (length s / 4) = omega arith in
       filled_all 0 (omega arith) f ∙ ap (λ (m : ℕ). tabulate m (group_code s)) e
 
--- the six codes of a group, stored point by point
-pub six_codes : (s xs ys zs : List ℕ) (i y cb cr y' : ℕ) → y ≡ get_or s (4 * i + 1) 0 → cb ≡ get_or s (4 * i) 0 → cr ≡ get_or s (4 * i + 2) 0 → y' ≡ get_or s (4 * i + 3) 0
-    → ys ≡ set (set (set xs (6 * i) y) (6 * i + 1) cb) (6 * i + 2) cr → zs ≡ set (set (set ys (6 * i + 3) y') (6 * i + 3 + 1) cb) (6 * i + 3 + 2) cr
-    → zs ≡ written xs (6 * i) (λ j. get_or s (4 * i + byte_of_code j) 0) 6
+-- the six codes of a group, stored
+pub six_codes : (s xs : List ℕ) (i y cb cr y' : ℕ) → y ≡ get_or s (4 * i + 1) 0 → cb ≡ get_or s (4 * i) 0 → cr ≡ get_or s (4 * i + 2) 0 → y' ≡ get_or s (4 * i + 3) 0
+    → set (set (set (set (set (set xs (6 * i) y) (6 * i + 1) cb) (6 * i + 2) cr) (6 * i + 3) y') (6 * i + 4) cb) (6 * i + 5) cr ≡ written xs (6 * i) (λ j. get_or s (4 * i + byte_of_code j) 0) 6
 unfolding written
-six_codes s xs ys zs i y cb cr y' e0 e1 e2 e3 f g =
-    let a : 6 * i + 3 + 1 ≡ 6 * i + 4 = omega arith in
-    let b : 6 * i + 3 + 2 ≡ 6 * i + 5 = omega arith in
-    rw (g, f, e0, e1, e2, e3, a, b, add-zero (6 * i), add-zero (4 * i))
+six_codes s xs i y cb cr y' e0 e1 e2 e3 = rw (e0, e1, e2, e3, add-zero (6 * i), add-zero (4 * i))

@@ -9,8 +9,9 @@ use Rattle.lists.proofs.Tests.{and3, pass, stop}
 use Rattle.layout.specs.declared.Layout.{Layout}
 use Rattle.layout.specs.Layout.{grouped, valid_groups, valid_layout}
 use Rattle.layout.proofs.Facts.{valid_groups_lem}
-use Rattle.line.specs.declared.LineAnswer.TheVariants.{Points, Refused}
 use Rattle.line.specs.Answer.{most_points, odd_points, packable, unpack_answer}
+use Rattle.std.specs.Prelude.{Ok, Err}
+use Rattle.refusal.specs.declared.Refusal.TheVariants.{Outside, WrongLineOrOutput}
 use Rattle.line.proofs.Grouped.{group_points, group_unpackable, group_odd, group_packable}
 
 -- ---- out of groups
@@ -25,18 +26,18 @@ unpack_sizes bytes output e =
     (omega (arith, eqb-true (bytes % 4) 0 h.0), omega (arith, eqb-true output (3 * (2 * (bytes / 4))) h.2))
 
 module _ (l : Layout) (bytes output : ℕ) where
-  pub unpack_outside : valid_layout l ≡ false → unpack_answer l bytes output ≡ Refused 9
+  pub unpack_outside : valid_layout l ≡ false → unpack_answer l bytes output ≡ Err Outside
   unfolding unpack_answer
   unpack_outside e = stop _ (ap not e)
 
-  pub unpack_unfit : valid_layout l ≡ true → grouped l ≡ true → unpack_fits bytes output ≡ false → unpack_answer l bytes output ≡ Refused 13
+  pub unpack_unfit : valid_layout l ≡ true → grouped l ≡ true → unpack_fits bytes output ≡ false → unpack_answer l bytes output ≡ Err WrongLineOrOutput
   unfolding unpack_answer
   unpack_unfit e g f = pass _ (ap not e) (stop _ (ap not (group_unpackable l (valid_groups_lem l e g) bytes output ∙ f)))
 
-  pub unpack_points_lem : valid_layout l ≡ true → grouped l ≡ true → unpack_fits bytes output ≡ true → unpack_answer l bytes output ≡ Points (2 * (bytes / 4))
+  pub unpack_points_lem : valid_layout l ≡ true → grouped l ≡ true → unpack_fits bytes output ≡ true → unpack_answer l bytes output ≡ Ok (2 * (bytes / 4))
   unfolding unpack_answer
   unpack_points_lem e g f =
-      pass _ (ap not e) (pass _ (ap not (group_unpackable l (valid_groups_lem l e g) bytes output ∙ f)) (ap Points (group_points l (valid_groups_lem l e g) bytes)))
+      pass _ (ap not e) (pass _ (ap not (group_unpackable l (valid_groups_lem l e g) bytes output ∙ f)) (ap Ok (group_points l (valid_groups_lem l e g) bytes)))
 
 -- ---- into groups
 

@@ -8,9 +8,10 @@ use lib.Dec.{leb, eqb}
 use lib.ListN.{length, get_or}
 use Rattle.lists.specs.Lists.{tabulate}
 use Rattle.lists.proofs.Lists.{tabulate_same}
+use Rattle.lists.proofs.Tests.{and_left, and_right}
 use Rattle.layout.specs.declared.Layout.{Layout}
 use Rattle.layout.specs.Layout.{grouped, whole_groups, valid_groups, valid_layout}
-use Rattle.layout.proofs.Facts.{two_each, groups_say, groups_grouped}
+use Rattle.layout.proofs.Facts.{two_each, groups_say, groups_grouped, valid_groups_lem}
 use Rattle.line.specs.Group.{group_code, group_byte, second_color}
 use Rattle.line.specs.Line.{point_code, code_at, points_in, codes_of, point_byte, byte_at, bytes_for, packed_of, looked, stands_for, shared}
 use Rattle.line.specs.Answer.{most_points, whole_points, unpackable, odd_points, packable, of_groups}
@@ -95,3 +96,19 @@ module _ {A B : Type 0} (l : Layout) (answer other : A) (output kept : B) where
       go : (t : Bool) → grouped l ≡ t → t && valid_layout l ≡ false → (other ≡ of_groups l answer other) × (kept ≡ of_groups l output kept)
       go true g v = of_groups_lem g (f v)
       go false g v = of_points_lem g
+
+-- what is known of a layout that the two tests let pass
+pub record GroupLayout (l : Layout) : Type 0 where
+  pub own : grouped l ≡ true
+  pub ok : valid_layout l ≡ true
+  pub valid : valid_groups l ≡ true
+
+pub two_tests : (l : Layout) {s t u : Bool} → s ≡ grouped l → t ≡ valid_layout l → s && t ≡ u → grouped l && valid_layout l ≡ u
+two_tests l e f g = sym (ap₂ ◌&&◌ e f) ∙ g
+
+pub group_layout : (l : Layout) {s t : Bool} → s ≡ grouped l → t ≡ valid_layout l → s && t ≡ true → GroupLayout l
+group_layout l e f g =
+    let both = two_tests l e f g in
+    let own = and_left (grouped l) (valid_layout l) both in
+    let ok = and_right (grouped l) (valid_layout l) both in
+    record { own = own; ok = ok; valid = valid_groups_lem l ok own }

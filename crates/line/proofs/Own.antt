@@ -12,7 +12,7 @@ use Rattle.lists.specs.Lists.{tabulate}
 use Rattle.lists.proofs.Lists.{is_tabulate, tabulate_same}
 use Rattle.layout.specs.declared.Layout.{Layout}
 use Rattle.layout.specs.Layout.{grouped, whole_groups, valid_points}
-use Rattle.layout.proofs.Facts.{one_each, not_grouped}
+use Rattle.layout.proofs.Facts.{Points, points_say, one_each, not_grouped}
 use Rattle.line.specs.Group.{group_code, group_byte, second_color}
 use Rattle.line.specs.Line.{point_code, code_at, points_in, codes_of, point_byte, byte_at, bytes_for, packed_of, looked, stands_for, shared}
 use Rattle.line.specs.Answer.{most_points, whole_points, fitting, unpackable, odd_points, packable, of_points}
@@ -87,3 +87,12 @@ module _ {A B : Type 0} (l : Layout) (answer other : A) (output kept : B) where
       go : (t : Bool) → grouped l ≡ t → (other ≡ cond t other answer) × (kept ≡ cond t kept output)
       go true g = (refl, refl)
       go false g = f g
+
+-- what is known of a layout that the test let pass
+pub record OwnLayout (l : Layout) : Type 0 where
+  pub ok : valid_points l ≡ true
+  pub own : grouped l ≡ false
+  pub facts : Points l
+
+pub own_layout : (l : Layout) {t : Bool} → t ≡ valid_points l → t ≡ true → OwnLayout l
+own_layout l e f = let ok = sym e ∙ f in record { ok = ok; own = not_grouped l ok; facts = points_say l ok }

@@ -10,9 +10,5 @@ pub const MOST_VALUES: u64 = 12288;
 pub fn cuts_told(cuts: u64) -> u32
     ensures { result ≡ cuts_told cuts }
 {
-    if cuts <= MOST_VALUES {
-        cuts as u32
-    } else {
-        MOST_VALUES as u32
-    }
+    cuts.min(MOST_VALUES) as u32
 }

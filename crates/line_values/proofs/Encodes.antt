@@ -1,11 +1,11 @@
 -- A line of values, quantized: its codes fit the layout, and the test for a number. Assumes nothing.
-use mathlib.Core.Path.{◌≡◌, refl, sym, ap, ◌∙◌, subst}
+use mathlib.Core.Path.{◌≡◌, refl, sym, ap, ◌∙◌}
 use mathlib.Core.Bool.{Bool, true, false, not, ◌&&◌, beq}
 use mathlib.Core.List.{List}
 use Prim.Native.Nat.{ℕ, ◌+◌, ◌*◌, ◌%◌, ◌^◌, ◌≤◌, ◌<◌, max}
 use native.Mathlib.Omega.{arith}
-use borrow.Author.Tests.{eq-eqb, le-leb}
-use lib.Dec.{T, leb}
+use borrow.Author.Tests.{eq-eqb, le-leb, not-true}
+use lib.Dec.{leb}
 use lib.IntN.{ℤ, pos, negsuc}
 use lib.Ieee.{Float, nan, inf, fin, up, down, eq, is_nan}
 use lib.ListN.{length, get_or}
@@ -23,12 +23,11 @@ use Rattle.layout.specs.Layout.{valid_layout}
 use Rattle.parameters.proofs.Depths.{steps}
 use Rattle.layout.proofs.Facts.{valid_says}
 use Rattle.scale.specs.declared.Scale.{Scale}
-use Rattle.quantization.specs.declared.code.Coded.{Coded}
-use Rattle.quantization.specs.declared.code.Coded.TheVariants.{Code}
 use Rattle.quantization.specs.Code.{code_of, code_or, is_cut_code, code_of_value, unclamped, exact}
 use Rattle.scales.specs.Channel.{scale_at}
 use Rattle.scale.proofs.Scales.{ends, ends_le}
 use Rattle.line.specs.Line.{looked, codes_within}
+use Rattle.std.specs.Prelude.{Option, Some}
 use Rattle.line_values.specs.Encode.{value_code, quantized_of, value_cut, cuts_of, all_numbers}
 
 -- a float equals itself unless it is a NaN
@@ -43,8 +42,8 @@ eq_self (inf s) = same_sign s
 eq_self (fin s m e) = rw (eq-eqb (m * up e * down e) (m * up e * down e) refl, same_sign s)
 
 -- a value of a line that was seen to hold numbers alone
-pub number_at : (vs : List Float) (k : ℕ) → all_numbers vs ≡ true → k < length vs → T (not (is_nan (get_or vs k nan)))
-number_at vs k e h = subst T (sym (every_at (λ v. not (is_nan v)) nan vs k e h)) tt
+pub number_at : (vs : List Float) (k : ℕ) → all_numbers vs ≡ true → k < length vs → is_nan (get_or vs k nan) ≡ false
+number_at vs k e h = not-true (is_nan (get_or vs k nan)) (every_at (λ v. not (is_nan v)) nan vs k e h)
 
 -- a code is at most the higher end
 clamp_le : (low high : ℕ) (z : ℤ) → clamp low high z ≤ max low high
@@ -86,7 +85,7 @@ module _ (l : Layout) (vs : List Float) where
       le-leb (get_or (quantized_of l vs) k 0) (top_of l.depth) (omega (arith, e, code_small l (k % 3) (get_or vs k nan) ok)))
 
   -- a code worked out on channel j's scale fits, and it is the line's; and so is what it says of a cut
-  pub placed : valid_layout l ≡ true → (i j : ℕ) (sc : Scale) (r : Clamped) → sc ≡ scale_at l j → j < 3 → 3 * i + j < length vs → Code r ≡ code_of sc (get_or vs (3 * i + j) nan)
+  pub placed : valid_layout l ≡ true → (i j : ℕ) (sc : Scale) (r : Clamped) → sc ≡ scale_at l j → j < 3 → 3 * i + j < length vs → Some r ≡ code_of sc (get_or vs (3 * i + j) nan)
       → (r.code < 2 ^ l.depth) × (r.code ≡ get_or (quantized_of l vs) (3 * i + j) 0) × (bool_byte r.cut ≡ one_if (value_cut l vs (3 * i + j)))
   unfolding value_cut
   placed ok i j sc r f h k e =
@@ -94,7 +93,7 @@ module _ (l : Layout) (vs : List Float) where
       let d = e ∙ ap (λ (x : Scale). code_of x v) f in
       let m : (3 * i + j) % 3 ≡ j = omega arith in
       let c = ap (code_or 0) d in
-      (omega (arith, c, code_small l j v ok), c ∙ sym (quantized_at_lem i j h k), byte_of r.cut ∙ ap (λ (x : Coded). one_if (is_cut_code x)) (d ∙ ap (λ (n : ℕ). code_of (scale_at l n) v) (sym m)))
+      (omega (arith, c, code_small l j v ok), c ∙ sym (quantized_at_lem i j h k), byte_of r.cut ∙ ap (λ (x : Option Clamped). one_if (is_cut_code x)) (d ∙ ap (λ (n : ℕ). code_of (scale_at l n) v) (sym m)))
 
   -- no more values are cut than there are
   pub cuts_most : cuts_of l vs ≤ length vs

@@ -2,42 +2,52 @@
 use mathlib.Core.Path.{◌≡◌, refl, sym, ap, ◌∙◌}
 use mathlib.Core.Bool.{Bool, true, false, cond}
 use mathlib.Core.List.{List, ◌++◌, append-nil}
-use Prim.Native.Nat.{ℕ, zero, suc, ◌+◌, ◌-◌, ◌*◌, ◌%◌, ◌≤◌, ◌<◌}
+use Prim.Native.Nat.{ℕ, zero, suc, ◌+◌, ◌*◌, ◌%◌, ◌≤◌, ◌<◌}
 use native.Mathlib.Numerals.{add-one}
 use native.Mathlib.Omega.{arith}
 use borrow.Author.Tests.{leb-true, lt-ltb, le-ltb}
 use lib.Dec.{eqb, leb}
-use lib.ListN.{length, length-append, take, drop}
+use lib.ListN.{length, length-append, length-drop, take, drop}
+use lib.Seq.{take_at, drop_at, drop-drop}
 use Rattle.lists.specs.Lists.{new_or_kept}
 use Rattle.lists.proofs.Tests.{and_right, pass, stop}
 use Rattle.card_table.specs.Table.{card_size}
 use Rattle.stack.specs.Stack.{cards_in, whole_stack, card_at}
 use Rattle.listing.specs.List.{card_line, first_line, card_lines, list_text}
-use Rattle.listing.specs.declared.Text.{Text}
-use Rattle.listing.specs.declared.Text.TheVariants.{Written, Refused}
-use Rattle.listing.specs.Text.{longest_list, text_answer, accepted, text_output}
-use Rattle.text_writer.specs.Put.{Put}
-use Rattle.text_writer.proofs.Puts.{put_join, put_as, front}
+use Rattle.listing.specs.Text.{longest_list, text_answer, text_output}
+use Rattle.text_writer.specs.declared.TextWriter.{TextWriter}
+use Rattle.text_writer.specs.Put.{Put, Wrote}
+use Rattle.text_writer.proofs.Puts.{wrote_join, wrote_as, front}
+use Rattle.std.specs.Prelude.{Result, Ok, Err, IsOk, is_ok}
+use Rattle.refusal.specs.declared.Refusal.{Refusal}
+use Rattle.refusal.specs.declared.Refusal.TheVariants.{WrongLineOrOutput}
 use Rattle.listing.proofs.Longest.{card_longest, first_longest}
 
 -- ---- the lines of the cards
 
-pub cards_none : (s : List ℕ) (at : ℕ) (xs : List ℕ) → at ≤ length xs → Put (card_lines s 0) at xs xs at
+pub cards_none : (s : List ℕ) (w : TextWriter) → w.at ≤ length w.out.now → Wrote (card_lines s 0) w w
 unfolding card_lines
-cards_none s at xs h = record { holds = refl; ends = omega arith }
+cards_none s w h = record { stored = record { holds = refl; ends = omega arith }; lent = refl }
 
--- card i as a part of the stack
-pub part_is : (s : List ℕ) (i : ℕ) → take (32 * i + 32 - 32 * i) (drop (32 * i) s) ≡ card_at s i
-part_is s i = let e : 32 * i + 32 - 32 * i ≡ 32 = omega arith in ap (λ (k : ℕ). take k (drop (32 * i) s)) e
+-- the card that the loop takes off what is left of the stack
+module _ (s : List ℕ) (k : ℕ) {rest : List ℕ} (card left : List ℕ) (at : rest ≡ drop (32 * k) s) (parts : rest ≡ card ++ left) (long : length card ≡ 32) where
+  pub card_is : card ≡ card_at s k
+  card_is = sym (take_at card left 32 long) ∙ ap (take 32) (sym parts ∙ at)
+
+  pub left_is : left ≡ drop (32 * (k + 1)) s
+  left_is =
+      let e : 32 * k + 32 ≡ 32 * (k + 1) = omega arith in
+      sym (drop_at card left 32 long) ∙ ap (drop 32) (sym parts ∙ at) ∙ drop-drop 32 (32 * k) s ∙ ap (λ (n : ℕ). drop n s) e
+
+  pub so_many : 32 * k ≤ length s → 32 * (k + 1) ≤ length s
+  so_many h = omega (arith, ap length at, ap length parts, length-append card left, length-drop (32 * k) s)
 
 next_lines : (s : List ℕ) (i : ℕ) → card_lines s i ++ card_line (card_at s i) ≡ card_lines s (i + 1)
 unfolding card_lines
 next_lines s i = sym (ap (card_lines s) (add-one i))
 
-pub cards_next : (s : List ℕ) (i : ℕ) {at m next : ℕ} {xs ys zs card : List ℕ} → card ≡ card_at s i → Put (card_lines s i) at xs ys m → Put (card_line card) m ys zs next
-    → Put (card_lines s (i + 1)) at xs zs next
-cards_next s i {at} {m} {next} {xs} {ys} {zs} {card} e a b =
-    put_as (ap (λ (c : List ℕ). card_lines s i ++ card_line c) e ∙ next_lines s i) (put_join a b)
+pub cards_next : (s : List ℕ) (i : ℕ) {w₀ w₁ w₂ : TextWriter} {card : List ℕ} → card ≡ card_at s i → Wrote (card_lines s i) w₀ w₁ → Wrote (card_line card) w₁ w₂ → Wrote (card_lines s (i + 1)) w₀ w₂
+cards_next s i e a b = wrote_as (ap (λ (c : List ℕ). card_lines s i ++ card_line c) e ∙ next_lines s i) (wrote_join a b)
 
 pub lines_longest : (s : List ℕ) (n : ℕ) → length (card_lines s n) ≤ 41 * n
 unfolding card_lines
@@ -76,41 +86,40 @@ module _ (s : List ℕ) where
 
   -- ---- the answer
 
-  pub refused : (out : List ℕ) → length out < 42000 → (Refused 13 ≡ text_answer (list_text s) (length out)) × (out ≡ text_output (list_text s) out)
+  pub refused : (out : List ℕ) → length out < 42000 → (Err WrongLineOrOutput ≡ text_answer (list_text s) (length out)) × (out ≡ text_output (list_text s) out)
   unfolding text_answer text_output
   refused out h =
       let e = sym (stop _ (lt-ltb (length out) longest_list h)) in
-      (e, ap (λ (a : Text). new_or_kept (accepted a) (list_text s ++ drop (length (list_text s)) out) out) e)
+      (e, ap (λ (a : Result ℕ Refusal). new_or_kept (is_ok a) (list_text s ++ drop (length (list_text s)) out) out) e)
 
-  written : {out ys : List ℕ} {next : ℕ} → 42000 ≤ length out → Put (list_text s) 0 out ys next
-      → (Written next ≡ text_answer (list_text s) (length out)) × (ys ≡ text_output (list_text s) out)
+  pub written : {out ys : List ℕ} {next : ℕ} → 42000 ≤ length out → Put (list_text s) 0 out ys next
+      → (Ok next ≡ text_answer (list_text s) (length out)) × (ys ≡ text_output (list_text s) out)
   unfolding text_answer text_output
   written {out} {ys} {next} h p =
       let f = front (omega (arith, list_longest)) p in
-      let e = ap Written f.0 ∙ sym (pass (Refused 13) (le-ltb (length out) longest_list h) refl) in
-      (e, f.1 ∙ ap (λ (n : ℕ). list_text s ++ drop n out) f.0 ∙ ap (λ (a : Text). new_or_kept (accepted a) (list_text s ++ drop (length (list_text s)) out) out) e)
+      let e = ap Ok f.0 ∙ sym (pass (Err WrongLineOrOutput) (le-ltb (length out) longest_list h) refl) in
+      (e, f.1 ∙ ap (λ (n : ℕ). list_text s ++ drop n out) f.0 ∙ ap (λ (a : Result ℕ Refusal). new_or_kept (is_ok a) (list_text s ++ drop (length (list_text s)) out) out) e)
 
-  module _ {out ys : List ℕ} {m : ℕ} (h : 42000 ≤ length out) (p : Put (first_line (length s)) 0 out ys m) where
-    pub written_one : whole_stack (length s) ≡ false → (Written m ≡ text_answer (list_text s) (length out)) × (ys ≡ text_output (list_text s) out)
-    written_one e = written h (put_as (one_line e) p)
+  -- the list that was written, which is all or one line
+  pub wrote_list : {w₀ w₁ w₂ : TextWriter} → whole_stack (length s) ≡ true → Wrote (first_line (length s)) w₀ w₁ → Wrote (card_lines s (cards_in (length s))) w₁ w₂ → Wrote (list_text s) w₀ w₂
+  wrote_list e a b = wrote_as (whole_list e) (wrote_join a b)
 
-    pub written_all : {zs : List ℕ} {next : ℕ} → whole_stack (length s) ≡ true → Put (card_lines s (cards_in (length s))) m ys zs next
-        → (Written next ≡ text_answer (list_text s) (length out)) × (zs ≡ text_output (list_text s) out)
-    written_all e q = written h (put_as (whole_list e) (put_join p q))
+  pub wrote_line : {w₀ w₁ : TextWriter} → whole_stack (length s) ≡ false → Wrote (first_line (length s)) w₀ w₁ → Wrote (list_text s) w₀ w₁
+  wrote_line e a = wrote_as (one_line e) a
 
   -- an output that every list fits in is not refused, and its front is then the text
   module _ (before : List ℕ) (h : 42000 ≤ length before) where
-    answer_is : text_answer (list_text s) (length before) ≡ Written (length (list_text s))
+    answer_is : text_answer (list_text s) (length before) ≡ Ok (length (list_text s))
     unfolding text_answer
-    answer_is = pass (Refused 13) (le-ltb (length before) longest_list h) refl
+    answer_is = pass (Err WrongLineOrOutput) (le-ltb (length before) longest_list h) refl
 
-    pub not_refused : (k : ℕ) → Refused k ≡ text_answer (list_text s) (length before) → ⊥
-    not_refused k e = let f : Refused k ≡ Written (length (list_text s)) = e ∙ answer_is in let z : ◌≡◌ {A = ℕ} 0 1 = cc in omega arith
+    pub not_refused : {r : Result ℕ Refusal} → r ≡ text_answer (list_text s) (length before) → IsOk r
+    not_refused e = rw (e ∙ answer_is) refl
 
-    pub leaves : (n : ℕ) {after : List ℕ} → Written n ≡ text_answer (list_text s) (length before) → after ≡ text_output (list_text s) before
+    pub leaves : (n : ℕ) {after : List ℕ} → Ok n ≡ text_answer (list_text s) (length before) → after ≡ text_output (list_text s) before
         → (n ≡ length (list_text s)) × (n ≤ length before) × (after ≡ list_text s ++ drop n before)
     unfolding text_output
     leaves n {after} e o =
-        let f : Written n ≡ Written (length (list_text s)) = e ∙ answer_is in
+        let f : Ok n ≡ Ok (length (list_text s)) = e ∙ answer_is in
         let z : n ≡ length (list_text s) = cc in
-        (z, omega (arith, list_longest), o ∙ ap (λ (a : Text). new_or_kept (accepted a) (list_text s ++ drop (length (list_text s)) before) before) (sym e) ∙ ap (λ (k : ℕ). list_text s ++ drop k before) (sym z))
+        (z, omega (arith, list_longest), o ∙ ap (λ (a : Result ℕ Refusal). new_or_kept (is_ok a) (list_text s ++ drop (length (list_text s)) before) before) (sym e) ∙ ap (λ (k : ℕ). list_text s ++ drop k before) (sym z))

@@ -9,8 +9,9 @@ use Rattle.text_writer.specs.Decimal.{decimal}
 use Rattle.text_writer.specs.Words.{space, newline}
 use Rattle.listing.specs.Words.{by, closed_word, community_word, open_word, access_word}
 use Rattle.listing.specs.List.{item_text, size_text, number_line}
-use Rattle.text_writer.specs.Put.{Put}
-use Rattle.text_writer.proofs.Puts.{put_join}
+use Rattle.text_writer.specs.declared.TextWriter.{TextWriter}
+use Rattle.text_writer.specs.Put.{Wrote}
+use Rattle.text_writer.proofs.Puts.{wrote_join}
 
 -- ---- the word of an access
 
@@ -42,18 +43,15 @@ length_line words n = simp length-append
 
 -- ---- piece by piece
 
-module _ {at m₁ m₂ m₃ m₄ : ℕ} {x₀ x₁ x₂ x₃ x₄ : List ℕ} where
-  pub item_put : (item access : ℕ) → Put (decimal item) at x₀ x₁ m₁ → Put space m₁ x₁ x₂ m₂ → Put (access_word access) m₂ x₂ x₃ m₃ → Put space m₃ x₃ x₄ m₄
-      → Put (item_text item access) at x₀ x₄ m₄
+module _ {w₀ w₁ w₂ w₃ w₄ : TextWriter} where
+  pub item_put : (item access : ℕ) → Wrote (decimal item) w₀ w₁ → Wrote space w₁ w₂ → Wrote (access_word access) w₂ w₃ → Wrote space w₃ w₄ → Wrote (item_text item access) w₀ w₄
   unfolding item_text
-  item_put item access a b c d = put_join (put_join (put_join a b) c) d
+  item_put item access a b c d = wrote_join (wrote_join (wrote_join a b) c) d
 
-  pub size_put : (width height : ℕ) → Put (decimal width) at x₀ x₁ m₁ → Put by m₁ x₁ x₂ m₂ → Put (decimal height) m₂ x₂ x₃ m₃ → Put newline m₃ x₃ x₄ m₄
-      → Put (size_text width height) at x₀ x₄ m₄
+  pub size_put : (width height : ℕ) → Wrote (decimal width) w₀ w₁ → Wrote by w₁ w₂ → Wrote (decimal height) w₂ w₃ → Wrote newline w₃ w₄ → Wrote (size_text width height) w₀ w₄
   unfolding size_text
-  size_put width height a b c d = put_join (put_join (put_join a b) c) d
+  size_put width height a b c d = wrote_join (wrote_join (wrote_join a b) c) d
 
-pub line_put : (words : List ℕ) (n : ℕ) {at m₁ m₂ m₃ : ℕ} {x₀ x₁ x₂ x₃ : List ℕ} → Put words at x₀ x₁ m₁ → Put (decimal n) m₁ x₁ x₂ m₂ → Put newline m₂ x₂ x₃ m₃
-    → Put (number_line words n) at x₀ x₃ m₃
+pub line_put : (words : List ℕ) (n : ℕ) {w₀ w₁ w₂ w₃ : TextWriter} → Wrote words w₀ w₁ → Wrote (decimal n) w₁ w₂ → Wrote newline w₂ w₃ → Wrote (number_line words n) w₀ w₃
 unfolding number_line
-line_put words n a b c = put_join (put_join a b) c
+line_put words n a b c = wrote_join (wrote_join a b) c

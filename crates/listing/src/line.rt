@@ -1,40 +1,45 @@
 // The lines of the list.
-ghost use Rattle.card_reader.specs.declared.CardReading.TheVariants.{Shown};
+ghost use Rattle.std.specs.Prelude.{Ok};
 ghost use Rattle.listing.specs.List.{reading_line, card_line, first_line};
-ghost use Rattle.text_writer.specs.Put.{Put};
+ghost use Rattle.text_writer.specs.Put.{Wrote};
 
 use crate::field::{put_item, put_line, put_size};
 use card_edition::edition;
-use card_reader::{CardReading, read};
+use card_reader::read;
 use card_table::{Card, Facts};
+use refusal::Refusal;
 use stack::whole;
+use text_writer::TextWriter;
 
 // Stores the line of a card's facts.
-fn put_facts(facts: Facts, at: usize, out: &mut [u8]) -> usize
-    ensures { Put (reading_line (Shown facts)) at out.old out.new result }
+fn put_facts(facts: Facts, text: &mut TextWriter<'_>)
+    ensures { Wrote (reading_line (Ok facts)) text.old text.new }
 {
-    let next = put_item(facts.item, facts.access, at, out);
-    put_size(facts.width, facts.height, next, out)
+    put_item(facts.item, facts.access, text);
+    put_size(facts.width, facts.height, text);
 }
 
 // Stores the line of a card, as the newest edition shows it.
-pub(crate) fn put_card(card: &[u8], at: usize, out: &mut [u8]) -> usize
-    ensures { Put (card_line card.now) at out.old out.new result }
+pub(crate) fn put_card(card: &[u8], text: &mut TextWriter<'_>)
+    ensures { Wrote (card_line card.now) text.old text.new }
 {
-    let reading = read(card, edition::NEWEST);
-    match reading {
-        CardReading::Refused(number) => put_line(b"- refused ", number as u64, at, out),
-        CardReading::Shown(facts) => put_facts(facts, at, out),
+    match read(card, edition::NEWEST) {
+        Err(refusal) => put_line(b"- refused ", refusal.number() as u64, text),
+        Ok(facts) => put_facts(facts, text),
     }
 }
 
 // Stores the first line for a stack of so many bytes.
-pub(crate) fn put_first(bytes: usize, out: &mut [u8]) -> usize
-    ensures { Put (first_line bytes) 0 out.old out.new result }
+pub(crate) fn put_first(bytes: usize, text: &mut TextWriter<'_>)
+    ensures { Wrote (first_line bytes) text.old text.new }
 {
     if whole(bytes) {
-        put_line(b"cards ", (bytes / Card::SIZE) as u64, 0, out)
+        put_line(b"cards ", (bytes / Card::SIZE) as u64, text);
     } else {
-        put_line(b"stack refused ", refusal::WRONG_LENGTH as u64, 0, out)
+        put_line(
+            b"stack refused ",
+            Refusal::WrongLength.number() as u64,
+            text,
+        );
     }
 }

@@ -1,12 +1,13 @@
 -- What the program that lists a stack did, and what its memory holds afterwards (document 01, "The stack list"). Assumes nothing.
-use Rattle.std.specs.Prelude.{ℕ, ◌+◌, ◌*◌, ◌≤◌, Bool, true, false, ◌&&◌, ◌≡◌, List, ◌++◌, eqb, leb, length, take, drop}
-use Rattle.refusal.specs.Refusal.{wrong_line_or_output}
+use Rattle.std.specs.Prelude.{ℕ, ◌+◌, ◌*◌, ◌≤◌, Bool, true, false, ◌&&◌, ◌≡◌, List, ◌++◌, eqb, leb, length, take, drop, Result, Ok, Err}
 use Rattle.card_table.specs.Table.{card_size}
 use Rattle.stack.specs.Stack.{stack_limit}
 use Rattle.listing.specs.List.{list_text}
 use Rattle.listing.specs.Text.{longest_list}
-use Rattle.listing_program.specs.declared.Ran.{Ran}
-use Rattle.listing_program.specs.declared.Ran.TheVariants.{Listed, NotRead, Refused}
+use Rattle.listing_program.specs.declared.Listed.{Listed}
+use Rattle.listing_program.specs.declared.RunError.{RunError}
+use Rattle.refusal.specs.declared.Refusal.TheVariants.{WrongLineOrOutput}
+use Rattle.listing_program.specs.declared.RunError.TheVariants.{NotRead, Refused}
 
 -- one byte more than the largest stack has
 abbrev pub most_read : ℕ
@@ -23,7 +24,7 @@ pub record ListedAs (n : ℕ) (list before after : List ℕ) : Type 0 where
   pub front : after ≡ list ++ drop n before
 
 -- the memory after each answer. What the system gave is in the buffer; the list is that of the bytes which were read
-abbrev pub Holds : Ran → (buffer buffer' text text' : List ℕ) → Type 0
-Holds (Listed read n) buffer buffer' text text' = (fits (length buffer) (length text) ≡ true) × (read ≤ length buffer') × ListedAs n (list_text (take read buffer')) text text'
-Holds NotRead buffer buffer' text text' = (fits (length buffer) (length text) ≡ true) × (text' ≡ text)
-Holds (Refused k) buffer buffer' text text' = (fits (length buffer) (length text) ≡ false) × (k ≡ wrong_line_or_output) × (buffer' ≡ buffer) × (text' ≡ text)
+abbrev pub Holds : Result Listed RunError → (buffer buffer' text text' : List ℕ) → Type 0
+Holds (Ok done) buffer buffer' text text' = (fits (length buffer) (length text) ≡ true) × (done.read ≤ length buffer') × ListedAs done.bytes (list_text (take done.read buffer')) text text'
+Holds (Err NotRead) buffer buffer' text text' = (fits (length buffer) (length text) ≡ true) × (text' ≡ text)
+Holds (Err (Refused k)) buffer buffer' text text' = (fits (length buffer) (length text) ≡ false) × (k ≡ WrongLineOrOutput) × (buffer' ≡ buffer) × (text' ≡ text)

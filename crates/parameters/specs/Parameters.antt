@@ -1,13 +1,9 @@
 -- Document 01, "Layout", with request A1's range 3: the numbers by which the paper names models, primaries, channels, ranges and depths. Assumes nothing.
-use Rattle.std.specs.Prelude.{ℕ, ◌-◌, ◌^◌, Bool, cond, ◌&&◌, ◌||◌, eqb, leb, ltb}
+use Rattle.std.specs.Prelude.{ℕ, ◌-◌, ◌^◌, Bool, cond, ◌&&◌, ◌||◌, eqb, leb, ltb, Option, Some, None}
 use Rattle.parameters.specs.declared.range.Range.{Range}
 use Rattle.parameters.specs.declared.range.Range.TheVariants.{Narrow, Full, LegacyFull}
-use Rattle.parameters.specs.declared.range.KnownRange.{KnownRange}
-use Rattle.parameters.specs.declared.range.KnownRange.TheVariants.{Known as AsRange, Unknown as NoRange}
 use Rattle.parameters.specs.declared.depth.Depth.{Depth}
 use Rattle.parameters.specs.declared.depth.Depth.TheVariants.{Eight, Ten, Twelve}
-use Rattle.parameters.specs.declared.depth.KnownDepth.{KnownDepth}
-use Rattle.parameters.specs.declared.depth.KnownDepth.TheVariants.{Known as AsDepth, Unknown as NoDepth}
 use Rattle.parameters.specs.declared.kind.Kind.{Kind}
 use Rattle.parameters.specs.declared.kind.Kind.TheVariants.{Brightness, Difference}
 
@@ -37,8 +33,8 @@ abbrev pub range_of : ℕ → Range
 range_of range = cond (eqb range (range_number Narrow)) Narrow (cond (eqb range (range_number Full)) Full LegacyFull)
 
 -- the range of any number, or that it has none
-abbrev pub known_range : ℕ → KnownRange
-known_range range = cond (range_known range) (AsRange (range_of range)) NoRange
+abbrev pub known_range : ℕ → Option Range
+known_range range = cond (range_known range) (Some (range_of range)) None
 
 -- a depth n of 8, 10 or 12
 abbrev pub depth_known : ℕ → Bool
@@ -55,8 +51,8 @@ bits_of Ten = 10
 bits_of Twelve = 12
 
 -- the depth of any number, or that it has none
-abbrev pub known_depth : ℕ → KnownDepth
-known_depth n = cond (depth_known n) (AsDepth (depth_of n)) NoDepth
+abbrev pub known_depth : ℕ → Option Depth
+known_depth n = cond (depth_known n) (Some (depth_of n)) None
 
 -- s = 2^(n-8), and the highest code 2^n - 1
 abbrev pub step_of : ℕ → ℕ

@@ -9,13 +9,6 @@ pub enum Depth {
     Twelve,
 }
 
-// The depth of a number, or that it has none.
-#[derive(Clone, Copy)]
-pub enum KnownDepth {
-    Known(Depth),
-    Unknown,
-}
-
 impl Depth {
     // 8, 10 or 12 bits.
     pub fn known(number: u8) -> bool
@@ -24,18 +17,15 @@ impl Depth {
         (number == 8) | (number == 10) | (number == 12)
     }
 
-    // The depth of a number.
-    pub fn of(number: u8) -> KnownDepth
+    // The depth of a number, or that it has none: not TryFrom, whose error could say no more.
+    pub fn of(number: u8) -> Option<Depth>
         ensures { result ≡ known_depth number }
     {
-        if number == 8 {
-            KnownDepth::Known(Depth::Eight)
-        } else if number == 10 {
-            KnownDepth::Known(Depth::Ten)
-        } else if number == 12 {
-            KnownDepth::Known(Depth::Twelve)
-        } else {
-            KnownDepth::Unknown
+        match number {
+            8 => Some(Depth::Eight),
+            10 => Some(Depth::Ten),
+            12 => Some(Depth::Twelve),
+            _ => None,
         }
     }
 

@@ -4,13 +4,15 @@
 ghost use Rattle.std.specs.Prelude.{◌≡◌};
 ghost use Rattle.parameters.specs.Parameters.{model_known, primaries_known, channel_known};
 
+mod channels;
 mod depth;
 mod kind;
 mod range;
 
-pub use depth::{Depth, KnownDepth};
+pub use channels::Channels;
+pub use depth::Depth;
 pub use kind::Kind;
-pub use range::{KnownRange, Range};
+pub use range::Range;
 
 // Model 1 is R'G'B', 2 is Y'CbCr.
 pub fn model_known(model: u8) -> bool

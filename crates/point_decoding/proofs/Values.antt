@@ -14,7 +14,6 @@ use Rattle.layout.specs.declared.Layout.{Layout}
 use Rattle.layout.specs.Layout.{valid_points}
 use Rattle.layout.proofs.Facts.{points_say}
 use Rattle.scale.specs.declared.Scale.{Scale}
-use Rattle.scales.specs.declared.channels.Scales.{Scales}
 use Rattle.scale.specs.Value.{value_of}
 use Rattle.scales.specs.Channel.{scale_at}
 use Rattle.scales.specs.inner.Fitted.{Fitted}
@@ -22,14 +21,8 @@ use Rattle.line.specs.Line.{point_code}
 use Rattle.line.proofs.Points.{point_count, filled_points}
 use Rattle.field.proofs.Line.{code_read, point_reaches}
 use Rattle.point_decoding.specs.inner.Points.{point_value, point_values_of}
+use Rattle.parameters.specs.declared.channels.Channels.{Channels}
 use Rattle.point_decoding.specs.inner.Read.{read_value, scale_in}
-
--- the layout's scales, channel by channel
-pub fitted_in : (l : Layout) (scales : Scales) (j : ℕ) → Fitted l scales → j < 3 → scale_in scales j ≡ scale_at l j
-fitted_in l scales zero f h = f.fitted0
-fitted_in l scales (suc zero) f h = f.fitted1
-fitted_in l scales (suc (suc zero)) f h = f.fitted2
-fitted_in l scales (suc (suc (suc j))) f h = absurd (omega arith)
 
 -- value 3 i + j is that of code 3 i + j
 pub value_of_lem : (l : Layout) (s : List ℕ) (i j : ℕ) {sc : Scale} {c : ℕ} → j < 3 → sc ≡ scale_at l j → c ≡ point_code l s (3 * i + j) → value_of sc c ≡ point_value l s (3 * i + j)

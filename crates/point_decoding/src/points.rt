@@ -12,8 +12,8 @@ ghost use Rattle.point_decoding.specs.inner.Read.{read_value, scale_in};
 
 use field::Field;
 use layout::Layout;
+use parameters::Channels;
 use scale::Scale;
-use scales::Scales;
 
 // The value of a field whose bytes begin at byte `at` of the line. (`count` is the field's own, and stands beside it so that
 // one choice by it can do for three fields.)
@@ -25,7 +25,7 @@ fn value_at(scale: Scale, field: Field, packed: &[u8], at: usize, count: usize) 
 }
 
 // Stores the three values of point i, which begins at byte `at`. All three fields have one count of bytes.
-fn put(layout: Layout, scales: Scales, packed: &[u8], at: usize, out: &mut [f32], i: usize)
+fn put(layout: Layout, scales: Channels<Scale>, packed: &[u8], at: usize, out: &mut [f32], i: usize)
     requires layout_value { (valid_points layout ≡ true) × (one_count layout ≡ true) × Fitted layout scales }
     requires bytes_in_bounds { (at + layout.bytes ≤ length packed.now) × (3 * i + 3 ≤ length out.old) }
     ensures { out.new ≡ written out.old (3 * i) (λ j. read_value layout packed.now at j) 3 }
@@ -40,17 +40,15 @@ fn put(layout: Layout, scales: Scales, packed: &[u8], at: usize, out: &mut [f32]
 }
 
 // The values of all points of a line of n, point by point.
-fn points(layout: Layout, scales: Scales, packed: &[u8], out: &mut [f32], n: usize)
+fn points(layout: Layout, scales: Channels<Scale>, packed: &[u8], out: &mut [f32], n: usize)
     requires layout_value { (valid_points layout ≡ true) × (one_count layout ≡ true) × Fitted layout scales }
     requires packed_len { (length packed.now ≡ layout.bytes * n) × (length out.old ≡ 3 * n) }
     ensures { out.new ≡ point_values_of layout packed.now }
 {
     let mut at = 0;
-    let mut i = 0;
-    while i < n {
+    for i in 0..n {
         put(layout, scales, packed, at, out, i);
         at += line::step(layout);
-        i += 1;
     }
 }
 
@@ -64,16 +62,14 @@ fn one_channel(layout: Layout, channel: u8, scale: Scale, packed: &[u8], out: &m
     let count = field.count;
     let place = channel as usize;
     let mut at = field.first;
-    let mut i = 0;
-    while i < n {
+    for i in 0..n {
         out[3 * i + place] = value_at(scale, field, packed, at, count);
         at += line::step(layout);
-        i += 1;
     }
 }
 
 // The scale of a channel.
-fn scale_of(scales: Scales, channel: u8) -> Scale
+fn scale_of(scales: Channels<Scale>, channel: u8) -> Scale
     ensures { result ≡ scale_in scales channel }
 {
     if channel == 0 {
@@ -88,20 +84,18 @@ fn scale_of(scales: Scales, channel: u8) -> Scale
 // The values of all points of a line of n, channel by channel: where the fields have not one count of bytes, so that a choice
 // by the count can be taken out of the loop. (The calls stand in a loop, and not one after the other, so that the compiler has
 // one place to put the function in. Else it would lay the scales out in memory for every line.)
-fn channels(layout: Layout, scales: Scales, packed: &[u8], out: &mut [f32], n: usize)
+fn channels(layout: Layout, scales: Channels<Scale>, packed: &[u8], out: &mut [f32], n: usize)
     requires layout_value { (valid_points layout ≡ true) × Fitted layout scales }
     requires packed_len { (length packed.now ≡ layout.bytes * n) × (length out.old ≡ 3 * n) }
     ensures { out.new ≡ point_values_of layout packed.now }
 {
-    let mut k = 0;
-    while k < 3 {
+    for k in 0..3 {
         one_channel(layout, k, scale_of(scales, k), packed, out, n);
-        k += 1;
     }
 }
 
 // The values of all points of a line of n.
-pub(crate) fn all(layout: Layout, scales: Scales, packed: &[u8], out: &mut [f32], n: usize)
+pub(crate) fn all(layout: Layout, scales: Channels<Scale>, packed: &[u8], out: &mut [f32], n: usize)
     requires layout_value { (valid_points layout ≡ true) × Fitted layout scales }
     requires packed_len { (length packed.now ≡ layout.bytes * n) × (length out.old ≡ 3 * n) }
     ensures { out.new ≡ point_values_of layout packed.now }

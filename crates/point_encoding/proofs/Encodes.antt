@@ -10,23 +10,24 @@ use Rattle.lists.specs.Lists.{one_if, count}
 use Rattle.lists.proofs.Counts.{count_le, count_same, count_point}
 use Rattle.layout.specs.declared.Layout.{Layout}
 use Rattle.layout.specs.Layout.{grouped}
-use Rattle.scales.specs.declared.channels.Scales.{Scales}
 use Rattle.scales.specs.inner.Fitted.{Fitted}
 use Rattle.float_scale.specs.inner.Floats.{float_scale}
 use Rattle.line.specs.Point.{in_place}
 use Rattle.line.specs.Line.{joined, looked}
 use Rattle.line.proofs.Own.{own_looked}
-use Rattle.point_encoding.specs.declared.encode.FloatScales.{FloatScales}
+use Rattle.float_scale.specs.declared.FloatScale.{FloatScale}
 use Rattle.point_encoding.specs.inner.Floats.{float_scales, InFloats}
+use Rattle.parameters.specs.declared.channels.Channels.{Channels}
+use Rattle.scale.specs.declared.Scale.{Scale}
 use Rattle.line_values.specs.Encode.{value_cut, cuts_of}
 
 -- the scales in f64 are the layout's
-pub in_floats_fit : {l : Layout} {s : Scales} {f : FloatScales} → Fitted l s → f ≡ float_scales s → InFloats l f
+pub in_floats_fit : {l : Layout} {s : Channels Scale} {f : Channels FloatScale} → Fitted l s → f ≡ float_scales s → InFloats l f
 in_floats_fit k e =
     record {
-      fitted0 = ap (λ (x : FloatScales). x.channel0) e ∙ ap float_scale k.fitted0;
-      fitted1 = ap (λ (x : FloatScales). x.channel1) e ∙ ap float_scale k.fitted1;
-      fitted2 = ap (λ (x : FloatScales). x.channel2) e ∙ ap float_scale k.fitted2;
+      fitted0 = ap (λ (x : Channels FloatScale). x.channel0) e ∙ ap float_scale k.fitted0;
+      fitted1 = ap (λ (x : Channels FloatScale). x.channel1) e ∙ ap float_scale k.fitted1;
+      fitted2 = ap (λ (x : Channels FloatScale). x.channel2) e ∙ ap float_scale k.fitted2;
     }
 
 module _ (l : Layout) (vs : List Float) where
@@ -39,10 +40,6 @@ module _ (l : Layout) (vs : List Float) where
   pub cuts_none : 0 ≡ count (3 * 0) (value_cut l vs)
   unfolding count
   cuts_none = refl
-
-  -- up to a point, told otherwise
-  pub cuts_on : {x i k : ℕ} → x ≡ count (3 * i) (value_cut l vs) → i ≡ k → x ≡ count (3 * k) (value_cut l vs)
-  cuts_on e f = e ∙ ap (λ (n : ℕ). count (3 * n) (value_cut l vs)) f
 
   -- of n points, no more than three each
   pub cuts_le : (i : ℕ) → count (3 * i) (value_cut l vs) ≤ 3 * i

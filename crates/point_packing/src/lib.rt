@@ -2,13 +2,11 @@
 #![tactic(auto)]
 
 ghost use Rattle.std.specs.Prelude.{◌≡◌, length};
-ghost use Rattle.refusal.specs.Refusal.{outside};
-ghost use Rattle.line.specs.declared.LineAnswer.TheVariants.{Refused};
 ghost use Rattle.line.specs.Answer.{pack_answer, pack_output, of_points};
 
 use layout::Layout;
-use line::LineAnswer;
-use parameters::{Depth, KnownDepth};
+use parameters::Depth;
+use refusal::Refusal;
 
 mod pack;
 mod runs;
@@ -18,24 +16,24 @@ pub use runs::{store_counted, store_one};
 
 // Packs a line of codes to points of their own; unused bits are zero. No byte is written before every code is seen to fit. A
 // layout of groups is refused as one that the paper has not. Refused: 9, then 13, then 14.
-pub fn pack_points(layout: Layout, codes: &[u16], out: &mut [u8]) -> LineAnswer
-    ensures answer { result ≡ of_points layout (pack_answer layout codes.now (length out.old)) (Refused outside) }
+pub fn pack_points(layout: Layout, codes: &[u16], out: &mut [u8]) -> Result<usize, Refusal>
+    ensures answer { result ≡ of_points layout (pack_answer layout codes.now (length out.old)) (Err Refusal.Outside) }
     ensures memory { out.new ≡ of_points layout (pack_output layout codes.now out.old) out.old }
 {
     if !layout.valid_points() {
-        return LineAnswer::Refused(refusal::OUTSIDE);
+        return Err(Refusal::Outside);
     }
-    let KnownDepth::Known(depth) = Depth::of(layout.depth) else {
-        return LineAnswer::Refused(refusal::OUTSIDE);
+    let Some(depth) = Depth::of(layout.depth) else {
+        return Err(Refusal::Outside);
     };
     let size = layout.bytes as usize;
     let n = codes.len() / 3;
     if !((codes.len() % 3 == 0) & (n <= line::MOST_POINTS) & (out.len() == size * n)) {
-        return LineAnswer::Refused(refusal::WRONG_LINE_OR_OUTPUT);
+        return Err(Refusal::WrongLineOrOutput);
     }
     if !line::all_within(codes, depth.top()) {
-        return LineAnswer::Refused(refusal::CODE_TOO_HIGH);
+        return Err(Refusal::CodeTooHigh);
     }
     pack::points(layout, codes, out, n);
-    LineAnswer::Points(n)
+    Ok(n)
 }

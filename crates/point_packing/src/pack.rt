@@ -22,14 +22,13 @@ pub(crate) fn points(layout: Layout, codes: &[u16], out: &mut [u8], n: usize)
     ensures { out.new ≡ points_packed layout codes.now }
 {
     let size = layout.bytes as usize;
-    let mut i = 0;
-    while i + 3 < n {
+    let pairs = n.saturating_sub(2) / 2;
+    for pair in 0..pairs {
+        let i = 2 * pair;
         store8(out, size * i, joined(layout, codes, i));
         store8(out, size * (i + 1), joined(layout, codes, i + 1));
-        i += 2;
     }
-    while i < n {
+    for i in 2 * pairs..n {
         store_low(out, size * i, size, joined(layout, codes, i));
-        i += 1;
     }
 }

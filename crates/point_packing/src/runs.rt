@@ -9,10 +9,7 @@ fn points_fit(size: usize, i: usize, count: usize, bytes: usize) -> bool
     requires { count ≤ 10 }
     ensures { result ≡ points_fit size i count bytes }
 {
-    if !((3 <= size) & (size <= 8) & (i <= line::MOST_POINTS)) {
-        return false;
-    }
-    size * (i + count) <= bytes
+    3 <= size && size <= 8 && i <= line::MOST_POINTS && size * (i + count) <= bytes
 }
 
 // Stores the numbers of eight points that fewer than two follow: the last two byte by byte, so that nothing falls beyond the

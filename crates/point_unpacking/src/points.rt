@@ -34,18 +34,17 @@ fn put(layout: Layout, packed: &[u8], at: usize, codes: &mut [u16], i: usize)
     codes[3 * i + 2] = code_at(field2, packed, at + field2.first, count);
 }
 
-// The codes of all points of a line of n, point by point.
+// The codes of all points of a line of n, point by point. (Where a point begins is added up beside its index: `line::step` says
+// why.)
 fn points(layout: Layout, packed: &[u8], codes: &mut [u16], n: usize)
     requires layout_value { (valid_points layout ≡ true) × (one_count layout ≡ true) }
     requires packed_len { (length packed.now ≡ layout.bytes * n) × (length codes.old ≡ 3 * n) }
     ensures { codes.new ≡ point_codes layout packed.now }
 {
     let mut at = 0;
-    let mut i = 0;
-    while i < n {
+    for i in 0..n {
         put(layout, packed, at, codes, i);
         at += line::step(layout);
-        i += 1;
     }
 }
 
@@ -59,11 +58,9 @@ fn one_channel(layout: Layout, channel: u8, packed: &[u8], codes: &mut [u16], n:
     let count = field.count;
     let place = channel as usize;
     let mut at = field.first;
-    let mut i = 0;
-    while i < n {
+    for i in 0..n {
         codes[3 * i + place] = code_at(field, packed, at, count);
         at += line::step(layout);
-        i += 1;
     }
 }
 
@@ -74,10 +71,8 @@ fn channels(layout: Layout, packed: &[u8], codes: &mut [u16], n: usize)
     requires packed_len { (length packed.now ≡ layout.bytes * n) × (length codes.old ≡ 3 * n) }
     ensures { codes.new ≡ point_codes layout packed.now }
 {
-    let mut k = 0;
-    while k < 3 {
-        one_channel(layout, k, packed, codes, n);
-        k += 1;
+    for channel in 0..3 {
+        one_channel(layout, channel, packed, codes, n);
     }
 }
 

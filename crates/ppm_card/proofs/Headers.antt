@@ -7,9 +7,10 @@ use native.Mathlib.Nat.{mul-le-mul}
 use borrow.Author.Tests.{leb-true}
 use lib.Dec.{leb}
 use Rattle.lists.proofs.Tests.{and_right, and3}
-use Rattle.picture.specs.Answer.{most_picture_points}
-use Rattle.ppm_header.specs.declared.Header.TheVariants.{Of}
+use Rattle.ppm_header.specs.Header.{most_picture_points}
+use Rattle.ppm_header.specs.declared.Header.{Header}
 use Rattle.ppm_header.specs.Header.{largest_picture_side, side_taken, top_known, header_known, read_header}
+use Rattle.std.specs.Prelude.{Ok}
 use Rattle.ppm_header.proofs.Claims.{no_other}
 
 side_most : (side : ℕ) → side_taken side ≡ true → side ≤ largest_picture_side
@@ -23,5 +24,5 @@ few-points width height top k =
 pub top_known_lem : (width height top : ℕ) → header_known width height top ≡ true → top_known top ≡ true
 top_known_lem width height top k = and_right (side_taken width && side_taken height) (top_known top) k
 
-pub header_known_lem : (ppm : List ℕ) (width height top head : ℕ) → read_header ppm ≡ Of width height top head → header_known width height top ≡ true
-header_known_lem ppm width height top head e = (no_other ppm width height top head e).0
+pub header_known_lem : (ppm : List ℕ) (h : Header) → read_header ppm ≡ Ok h → header_known h.width h.height h.top ≡ true
+header_known_lem ppm h e = (no_other ppm h.width h.height h.top h.length e).0

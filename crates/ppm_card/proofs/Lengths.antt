@@ -6,10 +6,11 @@ use Prim.Native.Nat.{ℕ, ◌+◌, ◌-◌, ◌*◌, ◌≤◌, ◌<◌}
 use native.Mathlib.Omega.{arith}
 use borrow.Author.Tests.{eq-eqb, eqb-true, ne_eqb}
 use lib.Dec.{eqb}
-use Rattle.picture.specs.declared.PictureLength.TheVariants.{Bytes, Refused as NoLength}
-use Rattle.ppm_header.specs.declared.Header.TheVariants.{Of, Refused as NoHeader}
+use Rattle.refusal.specs.declared.Refusal.{Refusal}
+use Rattle.ppm_header.specs.declared.Header.{Header}
 use Rattle.ppm_header.specs.Header.{read_header}
 use Rattle.ppm_raster.specs.Raster.{code_bytes}
+use Rattle.std.specs.Prelude.{Ok, Err}
 use Rattle.ppm_card.specs.Card.{depth_of_top, bytes_of_top, import_fits, length_read, import_length}
 
 -- ---- what fits
@@ -30,10 +31,10 @@ rest_long ppm head n h = by (eqb ppm (head + n)) refl
 
 -- ---- what is told
 
-pub length-refused : (ppm : List ℕ) (k : ℕ) → read_header ppm ≡ NoHeader k → import_length ppm ≡ NoLength k
+pub length-refused : (ppm : List ℕ) (k : Refusal) → read_header ppm ≡ Err k → import_length ppm ≡ Err k
 unfolding import_length
 length-refused ppm k h = ap length_read h
 
-pub length_read_lem : (ppm : List ℕ) (width height top head : ℕ) → read_header ppm ≡ Of width height top head → import_length ppm ≡ Bytes (bytes_of_top top * (width * height))
+pub length_read_lem : (ppm : List ℕ) (header : Header) → read_header ppm ≡ Ok header → import_length ppm ≡ Ok (bytes_of_top header.top * (header.width * header.height))
 unfolding import_length
-length_read_lem ppm width height top head h = ap length_read h
+length_read_lem ppm header h = ap length_read h

@@ -1,5 +1,5 @@
 -- Request A7: what is made of a picture file's header before any byte is stored. Assumes nothing.
-use Rattle.std.specs.Prelude.{ℕ, ◌+◌, ◌*◌, Bool, cond, ◌&&◌, List, eqb, leb}
+use Rattle.std.specs.Prelude.{ℕ, ◌+◌, ◌*◌, Bool, cond, ◌&&◌, List, eqb, leb, Result, Ok, Err}
 use Rattle.layout.specs.declared.Layout.{Layout}
 use Rattle.parameters.specs.declared.range.Range.TheVariants.{Full}
 use Rattle.parameters.specs.Parameters.{primaries_known, range_number}
@@ -7,11 +7,9 @@ use Rattle.layout.specs.Layout.{own_sampling}
 use Rattle.card_table.specs.declared.facts.Facts.{Facts}
 use Rattle.card_edition.specs.Access.{closed}
 use Rattle.card_table.specs.Table.{card_size}
-use Rattle.picture.specs.declared.PictureLength.{PictureLength}
-use Rattle.picture.specs.declared.PictureLength.TheVariants.{Bytes, Refused as NoLength}
-use Rattle.ppm_header.specs.declared.Header.{Header}
-use Rattle.ppm_header.specs.declared.Header.TheVariants.{Of, Refused as NoHeader}
 use Rattle.ppm_header.specs.Header.{read_header}
+use Rattle.refusal.specs.declared.Refusal.{Refusal}
+use Rattle.ppm_header.specs.declared.Header.{Header}
 use Rattle.ppm_raster.specs.Raster.{code_bytes}
 
 -- ---- the layout of the points, and the facts of the card
@@ -57,9 +55,9 @@ import_fits top points head ppm card packed = eqb ppm (head + 3 * code_bytes (de
 
 -- ---- how many bytes of packed points there will be: the header alone is looked at
 
-abbrev pub length_read : Header → PictureLength
-length_read (NoHeader k) = NoLength k
-length_read (Of width height top head) = Bytes (bytes_of_top top * (width * height))
+abbrev pub length_read : Result Header Refusal → Result ℕ Refusal
+length_read (Err k) = Err k
+length_read (Ok h) = Ok (bytes_of_top h.top * (h.width * h.height))
 
-unfoldable pub import_length : List ℕ → PictureLength
+unfoldable pub import_length : List ℕ → Result ℕ Refusal
 import_length ppm = length_read (read_header ppm)

@@ -50,7 +50,7 @@ fn layout_of(primaries: u8, depth: Depth) -> Layout
     let bits = bits_of(depth);
     Layout {
         model: 1,
-        primaries: primaries,
+        primaries,
         range: 2,
         depth: bits,
         bytes: bytes_of(depth),
@@ -67,9 +67,9 @@ pub fn facts_of(primaries: u8, depth: Depth, width: u16, height: u16, item: u64)
 {
     Facts {
         layout: layout_of(primaries, depth),
-        width: width,
-        height: height,
-        item: item,
+        width,
+        height,
+        item,
         access: access::CLOSED,
     }
 }

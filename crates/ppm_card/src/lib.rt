@@ -8,8 +8,7 @@ ghost use Rattle.ppm_card.specs.Card.{given_known, import_fits, import_length};
 
 use card_table::Card;
 use parameters::Depth;
-use picture::PictureLength;
-use ppm_header::Header;
+use refusal::Refusal;
 
 mod facts;
 
@@ -43,20 +42,11 @@ pub fn lengths_fit(
 }
 
 // How many bytes the packed points of a picture file have: its header says it. Refused by 18: a header that is not of our form.
-pub fn import_length(ppm: &[u8]) -> PictureLength
+pub fn import_length(ppm: &[u8]) -> Result<u32, Refusal>
     ensures answer { result ≡ import_length ppm.now }
 {
-    match ppm_header::read(ppm) {
-        Header::Of {
-            width,
-            height,
-            top,
-            length: _,
-        } => {
-            let depth = depth_of_top(top);
-            let points = width as u32 * height as u32;
-            PictureLength::Bytes(facts::bytes_of(depth) as u32 * points)
-        }
-        Header::Refused(number) => PictureLength::Refused(number),
-    }
+    let header = ppm_header::read(ppm)?;
+    let depth = depth_of_top(header.top);
+    let points = header.width as u32 * header.height as u32;
+    Ok(facts::bytes_of(depth) as u32 * points)
 }

@@ -1,12 +1,14 @@
 -- The codes of a raster, filled in and looked at one a turn. Assumes nothing.
 use mathlib.Core.Path.{◌≡◌, refl, sym, ap, ◌∙◌, subst}
 use mathlib.Core.Bool.{Bool, true, false, ◌&&◌}
-use mathlib.Core.List.{List}
+use mathlib.Core.List.{List, [], ◌∷◌}
 use Prim.Native.Nat.{ℕ, ◌+◌, ◌*◌, ◌/◌, ◌≤◌, ◌<◌}
+use native.Mathlib.Nat.{mul-add, mul-le-mul, mul-one}
 use native.Mathlib.Omega.{arith}
 use borrow.Author.Tests.{le-leb}
 use lib.Dec.{leb}
 use lib.ListN.{length, get_or, drop}
+use Rattle.std.specs.Int.{w16, from_be_bytes}
 use Rattle.lists.specs.Lists.{tabulate, every}
 use Rattle.lists.proofs.Lists.{length-tabulate, get_or-tabulate}
 use Rattle.lists.proofs.Every.{every_next, every_end, every_of}
@@ -23,13 +25,24 @@ module _ (s : List ℕ) where
   unfolding code_by
   take_single i = refl
 
-  pub take_double : (i : ℕ) → 256 * get_or s (2 * i) 0 + get_or s (2 * i + 1) 0 ≡ code_by 2 s i
+  pub take_one : (b i : ℕ) → b ≡ 1 → get_or s i 0 ≡ code_by b s i
+  take_one b i e = rw e (take_single i)
+
+  pub take_two : (b i : ℕ) → 1 ≤ b → b ≤ 2 → (b ≡ 1 → ⊥) → {c : ℕ} → c ≡ from_be_bytes w16 (get_or s (2 * i) 0 ∷ get_or s (2 * i + 1) 0 ∷ []) → c ≡ code_by b s i
   unfolding code_by
-  take_double i = refl
+  take_two b i l m n e =
+      let two : b ≡ 2 = omega arith in
+      rw two (e ∙ (omega arith))
 
   pub codes_all : (b : ℕ) {out xs : List ℕ} {n : ℕ} → length out ≡ length s / b → n ≡ length out → Filled out (code_by b s) n xs → xs ≡ codes_by b s
   unfolding codes_by
   codes_all b {out} {xs} {n} e m f = filled_all 0 (sym m) f ∙ ap (λ (k : ℕ). tabulate k (code_by b s)) (m ∙ e)
+
+-- code i lies within the bytes
+pub code_inside : (b bytes codes i : ℕ) → i < codes → bytes ≡ b * codes → b * i + b ≤ bytes
+code_inside b bytes codes i h e =
+    let turn : b * (i + 1) ≤ b * codes = mul-le-mul {n₂ = b} {m₂ = codes} (omega arith) (omega arith) in
+    omega (arith, e, mul-add b i 1, mul-one b)
 
 -- ---- the output
 

@@ -16,9 +16,9 @@ pub fn take_codes(depth: Depth, raster: &[u8], codes: &mut [u16])
     ensures memory { codes.new ≡ codes_output (bits_of depth) raster.now codes.old }
 {
     if code_bytes(depth) == 1 {
-        take::single(raster, codes);
+        take::codes::<1>(raster, codes);
     } else {
-        take::double(raster, codes);
+        take::codes::<2>(raster, codes);
     }
 }
 

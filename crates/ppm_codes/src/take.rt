@@ -1,56 +1,43 @@
-// Codes taken from bytes: a loop for each size of a code.
-ghost use Rattle.std.specs.Prelude.{◌≡◌, ◌+◌, ◌*◌, leb};
+// Codes taken from bytes.
+ghost use Rattle.std.specs.Prelude.{◌≡◌, ◌+◌, ◌*◌, ◌≤◌, length, leb};
 ghost use Rattle.lists.specs.Lists.{every};
-ghost use Rattle.ppm_codes.specs.Codes.{codes_by, taken_by};
+ghost use Rattle.ppm_codes.specs.Codes.{code_by, codes_by, taken_by};
 
-// One byte a code.
-pub(crate) fn single(raster: &[u8], codes: &mut [u16])
-    ensures { codes.new ≡ taken_by 1 raster.now codes.old }
+// Code i, of BYTES bytes, one or two, the high one first.
+fn code<const BYTES: usize>(raster: &[u8], i: usize) -> u16
+    requires size { (1 ≤ BYTES) × (BYTES ≤ 2) }
+    requires within { BYTES * i + BYTES ≤ length raster.now }
+    ensures { result ≡ code_by BYTES raster.now i }
 {
-    let n = raster.len();
-    if codes.len() != n {
-        return;
-    }
-    let mut i = 0;
-    while i < n {
-        codes[i] = raster[i] as u16;
-        i += 1;
+    if BYTES == 1 {
+        raster[i] as u16
+    } else {
+        u16::from_be_bytes([raster[2 * i], raster[2 * i + 1]])
     }
 }
 
-// A high byte and a low one.
-fn join(high: u8, low: u8) -> u16
-    ensures { result ≡ 256 * high + low }
-{
-    256 * high as u16 + low as u16
-}
-
-// Two bytes a code.
-pub(crate) fn double(raster: &[u8], codes: &mut [u16])
-    ensures { codes.new ≡ taken_by 2 raster.now codes.old }
+// All codes. (An index, since one slice is read and another written.)
+pub(crate) fn codes<const BYTES: usize>(raster: &[u8], codes: &mut [u16])
+    requires { (1 ≤ BYTES) × (BYTES ≤ 2) }
+    ensures { codes.new ≡ taken_by BYTES raster.now codes.old }
 {
     let n = codes.len();
-    if !((raster.len() % 2 == 0) & (raster.len() / 2 == n)) {
+    if !((raster.len() % BYTES == 0) & (raster.len() / BYTES == n)) {
         return;
     }
-    let mut i = 0;
-    while i < n {
-        codes[i] = join(raster[2 * i], raster[2 * i + 1]);
-        i += 1;
+    for i in 0..n {
+        codes[i] = code::<BYTES>(raster, i);
     }
 }
 
-// Whether no code of two bytes is above the top; an odd byte at the end is none. There is no early exit: it costs more than it
-// spares.
+// Whether no code of two bytes is above the top; an odd byte at the end is none. There is no early exit, as `all` has one: it
+// costs more than it spares.
 pub(crate) fn all_within(raster: &[u8], top: u16) -> bool
     ensures { result ≡ every (λ c. leb c top) (codes_by 2 raster.now) }
 {
-    let n = raster.len() / 2;
     let mut within = true;
-    let mut i = 0;
-    while i < n {
-        within = within & (join(raster[2 * i], raster[2 * i + 1]) <= top);
-        i += 1;
+    for i in 0..raster.len() / 2 {
+        within = within & (code::<2>(raster, i) <= top);
     }
     within
 }

@@ -20,10 +20,9 @@ use Rattle.line.specs.Line.{points_in, bytes_for}
 use Rattle.card_table.specs.declared.facts.Facts.{Facts}
 use Rattle.card_table.specs.Facts.{least_edition, side_known, facts_valid}
 use Rattle.card_edition.specs.Access.{access_known}
-use Rattle.card_reader.specs.declared.CardReading.TheVariants.{Shown}
 use Rattle.card_reader.specs.Reading.{writer_of, facts_in, front_right, read_card}
 use Rattle.card_reader.proofs.Shown.{accepted}
-use Rattle.picture.specs.Answer.{most_picture_points}
+use Rattle.ppm_header.specs.Header.{most_picture_points}
 use Rattle.text_writer.specs.Put.{Put}
 use Rattle.text_writer.proofs.Puts.{front}
 use Rattle.ppm_header.proofs.Texts.{header_short}
@@ -32,6 +31,7 @@ use Rattle.ppm_raster.proofs.Parts.{few_code_bytes}
 use Rattle.ppm_export.specs.Export.{points_of, header_of_facts, picture_bytes, export_fits}
 use Rattle.ppm_pixels.specs.Pixels.{pixels_fit}
 use Rattle.ppm_pixels.proofs.Pixels.{each-some}
+use Rattle.std.specs.Prelude.{Ok}
 use Rattle.ppm_export.specs.inner.Picture.{Known, units_of}
 
 -- ---- facts that are known
@@ -61,7 +61,7 @@ says f v =
     }
 
 -- what a card shows is known
-pub shown-known : (b : List ℕ) (e : ℕ) (f : Facts) → read_card b e ≡ Shown f → Known f
+pub shown-known : (b : List ℕ) (e : ℕ) (f : Facts) → read_card b e ≡ Ok f → Known f
 unfolding front_right facts_in
 shown-known b e f h =
     let a = accepted b e f h in

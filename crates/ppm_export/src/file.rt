@@ -5,16 +5,13 @@ ghost use Rattle.ppm_export.specs.Export.{picture_bytes, picture_of, export_fits
 ghost use Rattle.ppm_export.specs.inner.Picture.{Known, units_of};
 
 use card_table::Facts;
-use parameters::{Depth, KnownDepth};
+use parameters::Depth;
 
 // The depth of a number that is known. (Any other is taken for 12, and no card has one.)
 fn depth_of(number: u8) -> Depth
     ensures { result ≡ depth_of number }
 {
-    match Depth::of(number) {
-        KnownDepth::Known(depth) => depth,
-        KnownDepth::Unknown => Depth::Twelve,
-    }
+    Depth::of(number).unwrap_or(Depth::Twelve)
 }
 
 // How many points of their own, or groups, the packed lines have.

@@ -3,10 +3,10 @@ use Prim.Native.Nat.{ℕ}
 use mathlib.Core.Path.{◌≡◌, refl}
 use mathlib.Core.List.{List, [], ◌∷◌, ◌++◌}
 use lib.ListN.{take}
-use Rattle.refusal.specs.Refusal.{wrong_picture}
 use Rattle.text_writer.specs.Decimal.{digits, decimal}
-use Rattle.ppm_header.specs.declared.Header.TheVariants.{Of, Refused}
 use Rattle.ppm_header.specs.Text.{sides_text, header_text}
+use Rattle.std.specs.Prelude.{Ok, Err}
+use Rattle.refusal.specs.declared.Refusal.TheVariants.{WrongPicture}
 use Rattle.ppm_header.specs.Header.{leading, begins, header_of, read_header}
 
 -- `P6`, `1 1`, `255`
@@ -30,16 +30,16 @@ full = 50 ∷ 53 ∷ 53 ∷ []
 
 -- what follows a header is not looked at, were it a digit or a newline
 pub accepted : (header_text 1 1 255 ≡ smallest)
-    × (read_header smallest ≡ Of 1 1 255 11)
-    × (read_header (with one full ++ (49 ∷ 10 ∷ [])) ≡ Of 1 1 255 11)
-    × (read_header (with (49 ∷ 48 ∷ []) (49 ∷ 48 ∷ 50 ∷ 51 ∷ [])) ≡ Of 10 1 1023 13)
+    × (read_header smallest ≡ Ok (record { width = 1; height = 1; top = 255; length = 11 }))
+    × (read_header (with one full ++ (49 ∷ 10 ∷ [])) ≡ Ok (record { width = 1; height = 1; top = 255; length = 11 }))
+    × (read_header (with (49 ∷ 48 ∷ []) (49 ∷ 48 ∷ 50 ∷ 51 ∷ [])) ≡ Ok (record { width = 10; height = 1; top = 1023; length = 13 }))
     × (header_text 4096 4096 4095 ≡ largest)
-    × (read_header largest ≡ Of 4096 4096 4095 18)
+    × (read_header largest ≡ Ok (record { width = 4096; height = 4096; top = 4095; length = 18 }))
 unfolding read_header header_of leading begins header_text sides_text decimal digits
 accepted = (refl, refl, refl, refl, refl, refl)
 
 abbrev NotOurs : List ℕ → Type 0
-NotOurs s = read_header s ≡ Refused wrong_picture
+NotOurs s = read_header s ≡ Err WrongPicture
 
 -- numbers: `01`, `+1`, no digit, `0`, `4097`, `10000`, of which four digits would do; `0255`, `256`, `1024`
 pub numbers : NotOurs (with (48 ∷ 49 ∷ []) full)

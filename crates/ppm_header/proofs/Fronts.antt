@@ -1,41 +1,28 @@
--- Whether a text begins with another: the loop's steps, and what it says. Assumes nothing.
-use mathlib.Core.Path.{◌≡◌, refl, sym, ap, ap₂, ◌∙◌}
-use mathlib.Core.Bool.{Bool, true, false, ◌&&◌}
+-- Whether a text begins with another: by the library's method, and what it says. Assumes nothing.
+use mathlib.Core.Path.{◌≡◌, refl, sym, ap₂, ◌∙◌}
+use mathlib.Core.Bool.{Bool, true, false, ◌&&◌, true≢false}
 use mathlib.Core.List.{List, [], ◌∷◌, ◌++◌}
-use Prim.Native.Nat.{ℕ, ◌+◌, ◌≤◌, ◌<◌}
-use native.Mathlib.Nat.{not-suc-le-zero, le_of_suc-le-suc}
-use native.Mathlib.Numerals.{add-one}
-use borrow.Author.Tests.{eq-eqb, eqb-true}
+use Prim.Native.Nat.{ℕ}
+use Rattle.std.specs.List.{starts_with}
+use borrow.Author.Tests.{eq-eqb, eqb-true, ne_eqb}
 use lib.Dec.{eqb}
-use lib.ListN.{length, get_or, drop, drop_of_length-le}
-use lib.Seq.{drop-cons}
-use Rattle.lists.proofs.Every.{and_assoc}
-use Rattle.lists.proofs.Tests.{and_left, and_right, and_true}
+use lib.ListN.{length, drop}
+use Rattle.lists.proofs.Tests.{and_left, and_right}
 use Rattle.ppm_header.specs.Header.{begins}
 
-and_false : (a : Bool) → a && false ≡ false
-and_false true = refl
-and_false false = refl
+eqb_swap : (a b : ℕ) → eqb a b ≡ eqb b a
+eqb_swap a b = by (eqb b a) refl
+  where
+    by : (t : Bool) → eqb b a ≡ t → eqb a b ≡ t
+    by true e = eq-eqb a b (sym (eqb-true b a e))
+    by false e = ne_eqb a b (λ z. true≢false (sym (eq-eqb b a (sym z)) ∙ e))
 
--- the loop keeps in `same` whether the first i bytes are the same
-module _ (t s : List ℕ) (i : ℕ) (same : Bool) where
-  pub begins_next : i < length t → i < length s
-      → same && begins (drop i t) (drop i s) ≡ same && eqb (get_or s i 0) (get_or t i 0) && begins (drop (i + 1) t) (drop (i + 1) s)
-  unfolding begins
-  begins_next h l =
-      ap₂ (λ (x y : List ℕ). same && begins x y) (drop-cons t i 0 h) (drop-cons s i 0 l)
-      ∙ ap (λ (j : ℕ). same && (eqb (get_or s i 0) (get_or t i 0) && begins (drop j t) (drop j s))) (sym (add-one i))
-      ∙ and_assoc same (eqb (get_or s i 0) (get_or t i 0)) (begins (drop (i + 1) t) (drop (i + 1) s))
-
-  pub begins_end : length t ≤ i → same && begins (drop i t) (drop i s) ≡ same
-  unfolding begins
-  begins_end h = ap (λ (x : List ℕ). same && begins x (drop i s)) (drop_of_length-le t h) ∙ and_true same
-
-pub begins_short : (t s : List ℕ) → length s < length t → begins t s ≡ false
+-- what the library's method answers
+pub begins_is : (s t : List ℕ) → starts_with eqb s t ≡ begins t s
 unfolding begins
-begins_short [] s h = absurd (not-suc-le-zero h)
-begins_short (b ∷ t) [] h = refl
-begins_short (b ∷ t) (c ∷ s) h = ap (λ (x : Bool). eqb c b && x) (begins_short t s (le_of_suc-le-suc h)) ∙ and_false (eqb c b)
+begins_is s [] = refl
+begins_is [] (b ∷ t) = refl
+begins_is (c ∷ s) (b ∷ t) = ap₂ ◌&&◌ (eqb_swap b c) (begins_is s t)
 
 -- a text begins with its front, and with no other text
 pub begins-front : (t s : List ℕ) → begins t (t ++ s) ≡ true

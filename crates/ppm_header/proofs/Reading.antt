@@ -8,10 +8,11 @@ use lib.Seq.{drop_at}
 use Rattle.lists.proofs.Tests.{pass, stop}
 use Rattle.text_writer.specs.Decimal.{decimal}
 use Rattle.text_writer.specs.Words.{space, newline}
-use Rattle.ppm_header.specs.declared.Header.TheVariants.{Of, Refused}
 use Rattle.ppm_header.specs.Text.{magic, sides_text, header_text}
 use Rattle.ppm_header.specs.Header.{leading, number_from, begins, header_known, header_of, read_header}
 use Rattle.ppm_header.proofs.Numbers.{number_read}
+use Rattle.std.specs.Prelude.{Ok, Err}
+use Rattle.refusal.specs.declared.Refusal.TheVariants.{WrongPicture}
 use Rattle.ppm_header.proofs.Fronts.{begins-front}
 
 -- ---- the answer for three numbers
@@ -19,11 +20,11 @@ use Rattle.ppm_header.proofs.Fronts.{begins-front}
 module _ (s : List ℕ) (w h t : ℕ) where
   -- by the two tests, as the code has them
   module _ {known same : Bool} (k : known ≡ header_known w h t) (b : same ≡ begins (header_text w h t) s) where
-    pub accepted : known && same ≡ true → Of w h t (length (header_text w h t)) ≡ header_of s w h t
+    pub accepted : known && same ≡ true → Ok (record { width = w; height = h; top = t; length = (length (header_text w h t)) }) ≡ header_of s w h t
     unfolding header_of
     accepted e = sym (stop _ (sym (ap₂ ◌&&◌ k b) ∙ e))
 
-    pub refused : known && same ≡ false → Refused 18 ≡ header_of s w h t
+    pub refused : known && same ≡ false → Err WrongPicture ≡ header_of s w h t
     unfolding header_of
     refused e = sym (pass _ (sym (ap₂ ◌&&◌ k b) ∙ e) refl)
 
@@ -76,7 +77,7 @@ module _ (w h t : ℕ) (rest : List ℕ) where
       ∙ ap (leading 4 0) (drop_at front (decimal t ++ (10 ∷ rest)) (at_top w h) (simp length-append))
       ∙ number_read t 10 _ l refl
 
-  pub gives_back : w < 10 ^ 4 → h < 10 ^ 4 → t < 10 ^ 4 → header_known w h t ≡ true → read_header whole ≡ Of w h t (length (header_text w h t))
+  pub gives_back : w < 10 ^ 4 → h < 10 ^ 4 → t < 10 ^ 4 → header_known w h t ≡ true → read_header whole ≡ Ok (record { width = w; height = h; top = t; length = (length (header_text w h t)) })
   gives_back a b c k =
       sym (read_is whole (sym (gives_width a)) refl (sym (gives_height b)) refl (sym (gives_top c)))
       ∙ sym (accepted whole w h t (sym k) (sym (begins-front (header_text w h t) rest)) refl)

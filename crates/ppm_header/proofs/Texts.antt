@@ -1,14 +1,14 @@
 -- The pieces of a header, and how long they are. Assumes nothing.
 use mathlib.Core.Path.{◌≡◌}
-use mathlib.Core.List.{List}
 use Prim.Native.Nat.{ℕ, ◌+◌, ◌^◌, ◌≤◌, ◌<◌}
 use native.Mathlib.Omega.{arith}
 use lib.ListN.{length, length-append}
 use Rattle.text_writer.specs.Decimal.{decimal}
-use Rattle.text_writer.specs.Put.{Put}
+use Rattle.text_writer.specs.declared.TextWriter.{TextWriter}
+use Rattle.text_writer.specs.Put.{Wrote}
 use Rattle.text_writer.specs.Words.{space, newline}
 use Rattle.text_writer.proofs.Decimal.{length-decimal}
-use Rattle.text_writer.proofs.Puts.{put_join}
+use Rattle.text_writer.proofs.Puts.{wrote_join}
 use Rattle.ppm_header.specs.Text.{magic, sides_text, header_text}
 
 -- ---- lengths
@@ -34,13 +34,11 @@ header_short width height top w h t =
 
 -- ---- piece by piece
 
-module _ {at m₁ m₂ m₃ m₄ : ℕ} {x₀ x₁ x₂ x₃ x₄ : List ℕ} where
-  pub sides_put : (width height : ℕ) → Put (decimal width) at x₀ x₁ m₁ → Put space m₁ x₁ x₂ m₂ → Put (decimal height) m₂ x₂ x₃ m₃ → Put newline m₃ x₃ x₄ m₄
-      → Put (sides_text width height) at x₀ x₄ m₄
+module _ {w₀ w₁ w₂ w₃ w₄ : TextWriter} where
+  pub sides_put : (width height : ℕ) → Wrote (decimal width) w₀ w₁ → Wrote space w₁ w₂ → Wrote (decimal height) w₂ w₃ → Wrote newline w₃ w₄ → Wrote (sides_text width height) w₀ w₄
   unfolding sides_text
-  sides_put width height a b c d = put_join (put_join (put_join a b) c) d
+  sides_put width height a b c d = wrote_join (wrote_join (wrote_join a b) c) d
 
-  pub header_put : (width height top : ℕ) → Put magic at x₀ x₁ m₁ → Put (sides_text width height) m₁ x₁ x₂ m₂ → Put (decimal top) m₂ x₂ x₃ m₃ → Put newline m₃ x₃ x₄ m₄
-      → Put (header_text width height top) at x₀ x₄ m₄
+  pub header_put : (width height top : ℕ) → Wrote magic w₀ w₁ → Wrote (sides_text width height) w₁ w₂ → Wrote (decimal top) w₂ w₃ → Wrote newline w₃ w₄ → Wrote (header_text width height top) w₀ w₄
   unfolding header_text
-  header_put width height top a b c d = put_join (put_join (put_join a b) c) d
+  header_put width height top a b c d = wrote_join (wrote_join (wrote_join a b) c) d

@@ -1,9 +1,9 @@
 -- Request A7: what the header at the front of a text says. The numbers are taken where they would stand, and the header of these numbers is what must stand there: specs/Claims.antt says that exactly our form is accepted. Assumes nothing.
-use Rattle.std.specs.Prelude.{ℕ, zero, suc, ◌+◌, ◌-◌, ◌*◌, Bool, true, false, cond, ◌&&◌, ◌||◌, List, [], ◌∷◌, eqb, leb, length, drop}
-use Rattle.refusal.specs.Refusal.{wrong_picture}
+use Rattle.std.specs.Prelude.{ℕ, zero, suc, ◌+◌, ◌-◌, ◌*◌, Bool, true, false, cond, ◌&&◌, ◌||◌, List, [], ◌∷◌, eqb, leb, length, drop, Result, Ok, Err}
 use Rattle.text_writer.specs.Decimal.{digit, decimal}
+use Rattle.refusal.specs.declared.Refusal.TheVariants.{WrongPicture}
+use Rattle.refusal.specs.declared.Refusal.{Refusal}
 use Rattle.ppm_header.specs.declared.Header.{Header}
-use Rattle.ppm_header.specs.declared.Header.TheVariants.{Of, Refused}
 use Rattle.ppm_header.specs.Text.{header_text}
 
 -- ---- the numbers of a header
@@ -12,7 +12,11 @@ use Rattle.ppm_header.specs.Text.{header_text}
 abbrev pub largest_picture_side : ℕ
 largest_picture_side = 4096
 
--- the sides that a picture may have: 1 to that
+-- so that no picture has more points
+abbrev pub most_picture_points : ℕ
+most_picture_points = 4096 * 4096
+
+-- the sides that a picture may have: 1 to the largest
 abbrev pub side_taken : ℕ → Bool
 side_taken side = leb 1 side && leb side largest_picture_side
 
@@ -49,13 +53,13 @@ begins (b ∷ t) (c ∷ s) = eqb c b && begins t s
 -- ---- what a header says
 
 -- the answer for three numbers: they are what the text says if a header may have them, and theirs is what the text begins with; else 18
-unfoldable pub header_of : List ℕ → ℕ → ℕ → ℕ → Header
+unfoldable pub header_of : List ℕ → ℕ → ℕ → ℕ → Result Header Refusal
 header_of s width height top =
     let text = header_text width height top in
-    cond (header_known width height top && begins text s) (Of width height top (length text)) (Refused wrong_picture)
+    cond (header_known width height top && begins text s) (Ok (record { width = width; height = height; top = top; length = length text })) (Err WrongPicture)
 
 -- the width stands behind `P6` and its newline, the height behind the width and a space, the largest code behind the height and a newline
-unfoldable pub read_header : List ℕ → Header
+unfoldable pub read_header : List ℕ → Result Header Refusal
 read_header s =
     let width = number_from s 3 in
     let at_height = 3 + length (decimal width) + 1 in

@@ -3,24 +3,22 @@
 
 ghost use Rattle.std.specs.Prelude.{◌≡◌, length, ◌≤◌};
 ghost use Rattle.text_writer.specs.Decimal.{decimal};
-ghost use Rattle.text_writer.specs.Put.{Put};
+ghost use Rattle.text_writer.specs.Put.{Put, Wrote};
 ghost use Rattle.ppm_header.specs.Text.{sides_text, header_text};
 ghost use Rattle.ppm_header.specs.Header.{side_taken, top_known, header_known, begins, header_of, read_header};
 
-use text_writer::{put_byte, put_number};
+use refusal::Refusal;
+use text_writer::TextWriter;
 
 mod scan;
 
-// What a header says, with how many bytes it has, or the refusal's number.
+// What a header says, with how many bytes it has.
 #[derive(Clone, Copy)]
-pub enum Header {
-    Of {
-        width: u16,
-        height: u16,
-        top: u16,
-        length: usize,
-    },
-    Refused(u8),
+pub struct Header {
+    pub width: u16,
+    pub height: u16,
+    pub top: u16,
+    pub length: usize,
 }
 
 impl Header {
@@ -46,13 +44,13 @@ pub fn length(width: u16, height: u16, top: u16) -> usize
 }
 
 // Stores the line of the sides.
-fn put_sides(width: u16, height: u16, at: usize, out: &mut [u8]) -> usize
-    ensures { Put (sides_text width height) at out.old out.new result }
+fn put_sides(width: u16, height: u16, line: &mut TextWriter<'_>)
+    ensures { Wrote (sides_text width height) line.old line.new }
 {
-    let at_space = put_number(width as u64, at, out);
-    let at_height = put_byte(b' ', at_space, out);
-    let at_newline = put_number(height as u64, at_height, out);
-    put_byte(b'\n', at_newline, out)
+    line.put_number(width as u64);
+    line.put_byte(b' ');
+    line.put_number(height as u64);
+    line.put_byte(b'\n');
 }
 
 // Stores the header of these numbers at the front of an output, and answers where it ends. What would lie behind the
@@ -60,10 +58,12 @@ fn put_sides(width: u16, height: u16, at: usize, out: &mut [u8]) -> usize
 pub fn put(width: u16, height: u16, top: u16, out: &mut [u8]) -> usize
     ensures { Put (header_text width height top) 0 out.old out.new result }
 {
-    let at1 = text_writer::put(b"P6\n", 0, out);
-    let at2 = put_sides(width, height, at1, out);
-    let at3 = put_number(top as u64, at2, out);
-    put_byte(b'\n', at3, out)
+    let mut text = TextWriter::new(out);
+    text.put(b"P6\n");
+    put_sides(width, height, &mut text);
+    text.put_number(top as u64);
+    text.put_byte(b'\n');
+    text.at
 }
 
 // Whether a picture may have this side.
@@ -93,27 +93,27 @@ fn agrees(s: &[u8], width: u16, height: u16, top: u16) -> bool
 {
     let mut text = [0u8; LONGEST];
     let end = put(width, height, top, &mut text);
-    scan::begins_with(&text[..end], s)
+    s.starts_with(&text[..end])
 }
 
 // The answer for a text in which these numbers were found.
-fn header_of(s: &[u8], width: u16, height: u16, top: u16) -> Header
+fn header_of(s: &[u8], width: u16, height: u16, top: u16) -> Result<Header, Refusal>
     ensures { result ≡ header_of s.now width height top }
 {
     if known(width, height, top) & agrees(s, width, height, top) {
-        return Header::Of {
-            width: width,
-            height: height,
-            top: top,
+        return Ok(Header {
+            width,
+            height,
+            top,
             length: length(width, height, top),
-        };
+        });
     }
-    Header::Refused(refusal::WRONG_PICTURE)
+    Err(Refusal::WrongPicture)
 }
 
 // What the header at the front of a text says: the numbers are taken where they would stand, and the header of these
 // numbers is what must stand there. Refused by 18: a text that does not begin with a header of our form.
-pub fn read(s: &[u8]) -> Header
+pub fn read(s: &[u8]) -> Result<Header, Refusal>
     ensures answer { result ≡ read_header s.now }
 {
     let width = scan::number_from(s, 3);

@@ -1,6 +1,6 @@
-// What stands in a text: a number, and its front.
+// What stands in a text: a number.
 ghost use Rattle.std.specs.Prelude.{◌≡◌, get_or, ◌+◌, ◌-◌, ◌*◌, ◌≤◌, ◌<◌};
-ghost use Rattle.ppm_header.specs.Header.{is_digit, number_from, begins};
+ghost use Rattle.ppm_header.specs.Header.{is_digit, number_from};
 
 // The byte at index `at`, and 0, which is no digit, behind the end.
 fn byte_at(s: &[u8], at: usize) -> u8
@@ -30,30 +30,12 @@ pub(crate) fn number_from(s: &[u8], at: usize) -> u16
     ensures { result ≡ number_from s.now at }
 {
     let mut n: u16 = 0;
-    let mut i: usize = 0;
-    while i < 4 {
+    for i in 0..4 {
         let byte = byte_at(s, at + i);
         if !is_digit(byte) {
             return n;
         }
         n = appended(n, byte);
-        i += 1;
     }
     n
-}
-
-// Whether s begins with a text.
-pub(crate) fn begins_with(text: &[u8], s: &[u8]) -> bool
-    ensures { result ≡ begins text.now s.now }
-{
-    if s.len() < text.len() {
-        return false;
-    }
-    let mut same = true;
-    let mut i: usize = 0;
-    while i < text.len() {
-        same = same & (s[i] == text[i]);
-        i += 1;
-    }
-    same
 }

@@ -16,9 +16,8 @@ use Rattle.parameters.specs.declared.depth.Depth.{Depth}
 use Rattle.parameters.specs.Parameters.{bits_of, top_of}
 use Rattle.layout.specs.Layout.{valid_points}
 use Rattle.layout.proofs.Facts.{not_grouped}
-use Rattle.line.specs.declared.LineAnswer.{LineAnswer}
 use Rattle.line.specs.Line.{packed_of, codes_within}
-use Rattle.line.specs.Answer.{most_points, accepted, pack_output}
+use Rattle.line.specs.Answer.{most_points, pack_output}
 use Rattle.line.proofs.Answers.{fit, pack_points_lem}
 use Rattle.parts.proofs.Parts.{Parts, parts_many, parts_then, Made, made_none, made_more, made_long, made_all, span, lent}
 use Rattle.parts.proofs.Lines.{packed_parts}
@@ -28,6 +27,8 @@ use Rattle.ppm_raster.proofs.Rasters.{holds-so}
 use Rattle.ppm_codes.specs.Codes.{raster_codes, codes_output}
 use Rattle.ppm_codes.proofs.Parts.{codes_parts}
 use Rattle.ppm_codes.proofs.Codes.{taken}
+use Rattle.std.specs.Prelude.{Result, is_ok}
+use Rattle.refusal.specs.declared.Refusal.{Refusal}
 use Rattle.ppm_import.specs.inner.Picture.{Ready}
 
 -- a test that all elements of a list pass is passed by those that are made of a part
@@ -85,7 +86,7 @@ module _ (n each : ℕ) (e : each ≡ 3 * code_bytes n) where
           let cs = raster_codes n raster in
           let f = fit (length cs) 3 (length packed) l.bytes k (lit< tt) (point_codes_lem.long raster k raster_long) packed-long few in
           ap (λ (x : List ℕ). pack_output l x packed) block_codes
-          ∙ ap (λ (a : LineAnswer). new_or_kept (accepted a) (packed_of l cs) packed)
+          ∙ ap (λ (a : Result ℕ Refusal). new_or_kept (is_ok a) (packed_of l cs) packed)
           (pack_points_lem l (not_grouped l v) cs (length packed) v f.0 (ap (λ (m : ℕ). codes_within m cs) d ∙ within))
 
 -- ---- all blocks

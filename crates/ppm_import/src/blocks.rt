@@ -19,7 +19,8 @@ fn block(layout: Layout, depth: Depth, raster: &[u8], codes: &mut [u16], packed:
     ensures { packed.new ≡ pack_output layout (codes_output (bits_of depth) raster.now codes.old) packed.old }
 {
     ppm_codes::take_codes(depth, raster, codes);
-    packing::pack_line(layout, codes, packed);
+    // (Lines of these lengths are not refused.)
+    let _ = packing::pack_line(layout, codes, packed);
 }
 
 // All n points. The memory for codes is made once, and not cleared again for each block.
@@ -30,10 +31,12 @@ pub(crate) fn points(layout: Layout, depth: Depth, raster: &[u8], packed: &mut [
     let size = layout.bytes as usize;
     let each = 3 * ppm_raster::code_bytes(depth);
     let mut codes = [0u16; CODES];
+
+    // By index: of an output that is lent in pieces by `chunks_mut` nothing but its length would be known.
     let mut i: usize = 0;
     while i < n {
         let left = n - i;
-        let k = if left < POINTS { left } else { POINTS };
+        let k = left.min(POINTS);
         let next = i + k;
         let from = each * i;
         let to = each * next;

@@ -10,7 +10,6 @@ use lib.Dec.{eqb, leb, ltb}
 use lib.ListN.{length}
 use Rattle.lists.specs.Lists.{new_or_kept}
 use Rattle.lists.proofs.Tests.{and_left, and_right}
-use Rattle.refusal.specs.Refusal.{unknown_edition, later_edition}
 use Rattle.lists.specs.Bytes.{are_bytes}
 use Rattle.parameters.specs.Parameters.{primaries_known, top_of}
 use Rattle.line.specs.Line.{codes_of, packed_of, bytes_for, codes_within}
@@ -18,8 +17,6 @@ use Rattle.card_table.specs.declared.facts.Facts.{Facts}
 use Rattle.card_edition.specs.Edition.{edition_known, has_access}
 use Rattle.card_table.specs.Facts.{least_edition, with_access}
 use Rattle.card_edition.specs.Access.{closed, opened}
-use Rattle.card_reader.specs.declared.CardReading.{CardReading}
-use Rattle.card_reader.specs.declared.CardReading.TheVariants.{Shown, Refused as NotShown}
 use Rattle.card_reader.specs.Reading.{read_card}
 use Rattle.card_reader.proofs.Shown.{same_facts}
 use Rattle.card_table.specs.Table.{card_size, card_bytes}
@@ -27,12 +24,6 @@ use Rattle.card_laws.specs.Claims.{shows}
 use Rattle.card_laws.proofs.Claims.{shows_what_was_written, closed_or_as_it_stands}
 use Rattle.full_rgb.specs.Full.{full_codes}
 use Rattle.full_rgb_laws.proofs.Claims.{full_as_it_is}
-use Rattle.picture.specs.declared.PictureAnswer.{PictureAnswer}
-use Rattle.picture.specs.declared.PictureAnswer.TheVariants.{Points, Refused}
-use Rattle.picture.specs.declared.PictureLength.TheVariants.{Bytes, Refused as NoLength}
-use Rattle.picture.specs.Answer.{accepted}
-use Rattle.ppm_header.specs.declared.Header.{Header}
-use Rattle.ppm_header.specs.declared.Header.TheVariants.{Of, Refused as NoHeader}
 use Rattle.ppm_header.specs.Header.{read_header}
 use Rattle.ppm_header.proofs.Claims.{no_other, refused-by_18}
 use Rattle.ppm_raster.specs.Raster.{code_bytes}
@@ -47,6 +38,10 @@ use Rattle.ppm_import.proofs.Answers.{import_outside, import_read_lem, read_poin
 use Rattle.ppm_laws.specs.Claims.{OnlyOpen, NothingAtEdition1, ImportsTheCard, ImportsClosed, NoWayBackOut, ImportsWhatWasExported, ReturnsTheCodes, ExportKeeps, ImportKeeps, ReadingFirst, Range3Is9, NotOpenIs17, LengthsOr13, OutsideIs9, NoHeaderIs18, LengthsThenCodes, ExportLengthTold, NoLengthNoExport, ImportLengthTold, NoLengthNoImport}
 use Rattle.ppm_laws.proofs.Exported.{Exported, exported, is_open_lem}
 use Rattle.ppm_laws.proofs.Imported.{imported}
+use Rattle.std.specs.Prelude.{Result, Ok, Err, is_ok}
+use Rattle.refusal.specs.declared.Refusal.TheVariants.{LaterEdition, UnknownEdition, WrongLineOrOutput, WrongPicture}
+use Rattle.refusal.specs.declared.Refusal.{Refusal}
+use Rattle.ppm_header.specs.declared.Header.{Header}
 use Rattle.ppm_laws.proofs.Returns.{header, file_long, codes_are, codes_fit, codes_return}
 
 -- ---- only open cards are exported
@@ -68,13 +63,13 @@ nothing_at_edition_1 card packed output n h =
 
 pub export_keeps : ExportKeeps
 unfolding export_output
-export_keeps card packed before e k h = ap (λ (a : PictureAnswer). new_or_kept (accepted a) (picture_shown (read_for_export card e) packed before) before) h
+export_keeps card packed before e k h = ap (λ (a : Result ℕ Refusal). new_or_kept (is_ok a) (picture_shown (read_for_export card e) packed before) before) h
 
 -- ---- the rows of an export
 
-by_read : (card : List ℕ) (e packed output : ℕ) {k : ℕ} → NotShown k ≡ read_for_export card e → export_answer card e packed output ≡ Refused k
+by_read : (card : List ℕ) (e packed output : ℕ) {k : Refusal} → Err k ≡ read_for_export card e → export_answer card e packed output ≡ Err k
 unfolding export_answer
-by_read card e packed output r = ap (λ (x : CardReading). export_shown x packed output) (sym r)
+by_read card e packed output r = ap (λ (x : Result Facts Refusal). export_shown x packed output) (sym r)
 
 pub reading-first : ReadingFirst
 reading-first card e packed output k r = by_read card e packed output (not_read card e r)
@@ -95,22 +90,22 @@ pub export_length_told : ExportLengthTold
 unfolding export_length export_fits
 export_length_told card e packed output n h =
     let x = exported card e packed output n h in
-    ap length_shown x.read ∙ ap Bytes (sym (eqb-true output (picture_bytes x.facts) (and_right (eqb packed (bytes_for x.facts.layout (points_of x.facts))) (eqb output (picture_bytes x.facts)) x.fits)))
+    ap length_shown x.read ∙ ap Ok (sym (eqb-true output (picture_bytes x.facts) (and_right (eqb packed (bytes_for x.facts.layout (points_of x.facts))) (eqb output (picture_bytes x.facts)) x.fits)))
 
 pub no_length_no_export : NoLengthNoExport
 unfolding export_length
 no_length_no_export card e packed output k h = by_read card e packed output (of (read_for_export card e) h)
   where
-    of : (r : CardReading) → length_shown r ≡ NoLength k → NotShown k ≡ r
-    of (NotShown j) h = let same : j ≡ k = cc in ap NotShown (sym same)
-    of (Shown f) h = let z : ◌≡◌ {A = ℕ} 0 1 = cc in absurd (omega arith)
+    of : (r : Result Facts Refusal) → length_shown r ≡ Err k → Err k ≡ r
+    of (Err j) h = let same : j ≡ k = cc in ap Err (sym same)
+    of (Ok f) h = let z : ◌≡◌ {A = ℕ} 0 1 = cc in absurd (omega arith)
 
 pub import_length_told : ImportLengthTold
 unfolding import_length
 import_length_told ppm item primaries card packed n h =
     let x = imported ppm item primaries card packed n h in
     let fit = fits_says x.top (x.width * x.height) x.head (length ppm) card packed x.fits in
-    ap length_read x.read ∙ ap Bytes (sym fit.2)
+    ap length_read x.read ∙ ap Ok (sym fit.2)
 
 -- ---- an import makes a closed card
 
@@ -119,17 +114,17 @@ unfolding import_card
 imports_the_card ppm card item primaries width height top head packed n small r h =
     let g = (imported ppm item primaries (length card) packed n h).given in
     let made : import_card ppm item primaries card packed ≡ card_bytes import_edition (import_facts primaries top width height item) =
-    ap₂ (λ (a : PictureAnswer) (new : List ℕ). new_or_kept (accepted a) new card) h (ap (λ (z : Header). card_read z item primaries card) r) in
+    ap₂ (λ (a : Result ℕ Refusal) (new : List ℕ). new_or_kept (is_ok a) new card) h (ap (λ (z : Result Header Refusal). card_read z item primaries card) r) in
     let known = (no_other ppm width height top head r).0 in
     let ok = writable primaries top width height item (and_right (leb 1 item) (primaries_known primaries) g) known (leb-true 1 item (and_left (leb 1 item) (primaries_known primaries) g)) small in
     (made, λ e. ap (λ (b : List ℕ). read_card b e) made ∙ shows_what_was_written import_edition e (import_facts primaries top width height item) ok)
 
 -- what a card of closed facts shows is closed
-closed-shown : (f g : Facts) (e : ℕ) → f.access ≡ closed → shows f e ≡ Shown g → g.access ≡ closed
+closed-shown : (f g : Facts) (e : ℕ) → f.access ≡ closed → shows f e ≡ Ok g → g.access ≡ closed
 unfolding shows
 closed-shown f g e c h = go (edition_known e) (ltb e (least_edition f)) (has_access e) h
   where
-    go : (t u v : Bool) → cond (not t) (NotShown unknown_edition) (cond u (NotShown later_edition) (Shown (with_access f (cond v f.access closed)))) ≡ Shown g → g.access ≡ closed
+    go : (t u v : Bool) → cond (not t) (Err UnknownEdition) (cond u (Err LaterEdition) (Ok (with_access f (cond v f.access closed)))) ≡ Ok g → g.access ≡ closed
     go false u v h = let z : ◌≡◌ {A = ℕ} 0 1 = cc in absurd (omega arith)
     go true true v h = let z : ◌≡◌ {A = ℕ} 0 1 = cc in absurd (omega arith)
     go true false true h = ap (λ (x : Facts). x.access) (sym (same_facts (with_access f f.access) g h)) ∙ c
@@ -150,8 +145,8 @@ no_way_back_out ppm card item primaries packed n small h e points output m out =
 
 -- ---- what returns
 
-module _ (card packed file packed' : List ℕ) (e n item primaries : ℕ) (f : Facts) (b : are_bytes packed ≡ true) (r : read_card card e ≡ Shown f)
-    (h : export_answer card e (length packed) (length file) ≡ Points n) (i : leb 1 item ≡ true) (p : primaries_known primaries ≡ true) (o : length packed' ≡ bytes_of_top (top_of f.layout.depth) * n) where
+module _ (card packed file packed' : List ℕ) (e n item primaries : ℕ) (f : Facts) (b : are_bytes packed ≡ true) (r : read_card card e ≡ Ok f)
+    (h : export_answer card e (length packed) (length file) ≡ Ok n) (i : leb 1 item ≡ true) (p : primaries_known primaries ≡ true) (o : length packed' ≡ bytes_of_top (top_of f.layout.depth) * n) where
   x : Exported card e (length packed) (length file) n
   x = exported card e (length packed) (length file) n h
 
@@ -171,7 +166,7 @@ module _ (card packed file packed' : List ℕ) (e n item primaries : ℕ) (f : F
   packed-long = (fit_say f k (length packed) (length file) fits).0
 
   file_is : export_output card e packed file ≡ picture_of f packed
-  file_is = sym (points card e packed file f (subst (λ (g : Facts). read_for_export card e ≡ Shown g) same x.read) fits refl).1
+  file_is = sym (points card e packed file f (subst (λ (g : Facts). read_for_export card e ≡ Ok g) same x.read) fits refl).1
 
   abbrev top : ℕ
   top = top_of f.layout.depth
@@ -188,20 +183,20 @@ module _ (card packed file packed' : List ℕ) (e n item primaries : ℕ) (f : F
       && true
       && eq-eqb (length packed') (bytes_of_top top * points_of f) (o ∙ ap (λ (m : ℕ). bytes_of_top top * m) count) j
 
-  taken : import_answer (picture_of f packed) item primaries card_size (length packed') ≡ Points n
+  taken : import_answer (picture_of f packed) item primaries card_size (length packed') ≡ Ok n
   taken =
-      import_read_lem (picture_of f packed) item primaries card_size (length packed') (Of f.width f.height top head) given (header f packed k b packed-long)
+      import_read_lem (picture_of f packed) item primaries card_size (length packed') (Ok (record { width = f.width; height = f.height; top = top; length = head })) given (header f packed k b packed-long)
       ∙ read_points (picture_of f packed) f.width f.height top head card_size (length packed') import_fits_lem (codes_fit f packed k b packed-long)
-      ∙ ap Points (sym count)
+      ∙ ap Ok (sym count)
 
   made : import_packed (picture_of f packed) item primaries card_size packed' ≡ packed_of (import_layout primaries top) (full_codes f.layout (codes_of f.layout packed))
   unfolding import_packed
   made =
-      ap₂ (λ (a : PictureAnswer) (new : List ℕ). new_or_kept (accepted a) new packed') taken (ap (λ (z : Header). packed_read z (picture_of f packed) primaries packed') (header f packed k b packed-long))
+      ap₂ (λ (a : Result ℕ Refusal) (new : List ℕ). new_or_kept (is_ok a) new packed') taken (ap (λ (z : Result Header Refusal). packed_read z (picture_of f packed) primaries packed') (header f packed k b packed-long))
       ∙ ap (packed_of (import_layout primaries top)) (codes_are f packed k b packed-long)
 
-  both : (read_header (export_output card e packed file) ≡ Of f.width f.height top head)
-      × (import_answer (export_output card e packed file) item primaries card_size (length packed') ≡ Points n)
+  both : (read_header (export_output card e packed file) ≡ Ok (record { width = f.width; height = f.height; top = top; length = head }))
+      × (import_answer (export_output card e packed file) item primaries card_size (length packed') ≡ Ok n)
       × (codes_of (import_layout primaries top) (import_packed (export_output card e packed file) item primaries card_size packed') ≡ full_codes f.layout (codes_of f.layout packed))
   both = (
     ap read_header file_is ∙ header f packed k b packed-long,
@@ -223,15 +218,15 @@ returns_the_codes card packed file packed' e n item primaries f b r m range h i 
 pub import_keeps : ImportKeeps
 unfolding import_card import_packed
 import_keeps ppm card packed item primaries k h = (
-  ap (λ (a : PictureAnswer). new_or_kept (accepted a) (card_read (read_header ppm) item primaries card) card) h,
-  ap (λ (a : PictureAnswer). new_or_kept (accepted a) (packed_read (read_header ppm) ppm primaries packed) packed) h,
+  ap (λ (a : Result ℕ Refusal). new_or_kept (is_ok a) (card_read (read_header ppm) item primaries card) card) h,
+  ap (λ (a : Result ℕ Refusal). new_or_kept (is_ok a) (packed_read (read_header ppm) ppm primaries packed) packed) h,
 )
 
 pub outside_is_9 : OutsideIs9
 outside_is_9 ppm item primaries card packed h = import_outside ppm item primaries card packed h
 
 pub no_header_is_18 : NoHeaderIs18
-no_header_is_18 ppm item primaries card packed k g r = import_read_lem ppm item primaries card packed (NoHeader k) g r ∙ ap Refused (refused-by_18 ppm k r)
+no_header_is_18 ppm item primaries card packed k g r = import_read_lem ppm item primaries card packed (Err k) g r ∙ ap Err (refused-by_18 ppm k r)
 
 -- a test that leads to a refusal, the other way round
 swapped : {A : Type 0} (t : Bool) (x y : A) → cond (not t) x y ≡ cond t y x
@@ -241,20 +236,20 @@ swapped false x y = refl
 pub lengths_then_codes : LengthsThenCodes
 lengths_then_codes ppm item primaries card packed width height top head g r =
     let within = codes_within (depth_of_top top) (codes_after top head ppm) in
-    import_read_lem ppm item primaries card packed (Of width height top head) g r
-    ∙ swapped (import_fits top (width * height) head (length ppm) card packed) (Refused 13) (cond (not within) (Refused 18) (Points (width * height)))
-    ∙ ap (λ (a : PictureAnswer). cond (import_fits top (width * height) head (length ppm) card packed) a (Refused 13)) (swapped within (Refused 18) (Points (width * height)))
+    import_read_lem ppm item primaries card packed (Ok (record { width = width; height = height; top = top; length = head })) g r
+    ∙ swapped (import_fits top (width * height) head (length ppm) card packed) (Err WrongLineOrOutput) (cond (not within) (Err WrongPicture) (Ok (width * height)))
+    ∙ ap (λ (a : Result ℕ Refusal). cond (import_fits top (width * height) head (length ppm) card packed) a (Err WrongLineOrOutput)) (swapped within (Err WrongPicture) (Ok (width * height)))
 
 pub lengths_or_13 : LengthsOr13
 unfolding export_answer
 lengths_or_13 card e packed output f r o a =
-    ap (λ (x : CardReading). export_shown x packed output) (sym (is_read card e f r (differs f.layout.range 3 o) a))
-    ∙ swapped (export_fits f packed output) (Refused 13) (Points (points_of f))
+    ap (λ (x : Result Facts Refusal). export_shown x packed output) (sym (is_read card e f r (differs f.layout.range 3 o) a))
+    ∙ swapped (export_fits f packed output) (Err WrongLineOrOutput) (Ok (points_of f))
 
 pub no_length_no_import : NoLengthNoImport
 unfolding import_length
 no_length_no_import ppm item primaries card packed k g h = of (read_header ppm) refl h
   where
-    of : (r : Header) → read_header ppm ≡ r → length_read r ≡ NoLength k → import_answer ppm item primaries card packed ≡ Refused k
-    of (NoHeader j) r h = let same : j ≡ k = cc in import_read_lem ppm item primaries card packed (NoHeader j) g r ∙ ap Refused same
-    of (Of w h' t d) r h = let z : ◌≡◌ {A = ℕ} 0 1 = cc in absurd (omega arith)
+    of : (r : Result Header Refusal) → read_header ppm ≡ r → length_read r ≡ Err k → import_answer ppm item primaries card packed ≡ Err k
+    of (Err j) r h = let same : j ≡ k = cc in import_read_lem ppm item primaries card packed (Err j) g r ∙ ap Err same
+    of (Ok x) r h = let z : ◌≡◌ {A = ℕ} 0 1 = cc in absurd (omega arith)

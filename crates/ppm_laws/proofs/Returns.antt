@@ -23,7 +23,6 @@ use Rattle.color_equations.specs.Line.{converted_at, converted_of}
 use Rattle.full_rgb.specs.Full.{full_of, full_codes}
 use Rattle.full_rgb_laws.proofs.Claims.{stays_within}
 use Rattle.card_table.specs.declared.facts.Facts.{Facts}
-use Rattle.ppm_header.specs.declared.Header.TheVariants.{Of}
 use Rattle.ppm_header.specs.Header.{top_known, header_known, read_header}
 use Rattle.ppm_header.proofs.Claims.{read_back}
 use Rattle.ppm_raster.specs.Raster.{code_bytes}
@@ -38,6 +37,7 @@ use Rattle.ppm_export.proofs.Pictures.{says, whole_units}
 use Rattle.ppm_card.specs.Card.{depth_of_top, import_layout}
 use Rattle.ppm_card.proofs.Depths.{depth_back}
 use Rattle.ppm_import.specs.Import.{codes_after}
+use Rattle.std.specs.Prelude.{Ok}
 use Rattle.ppm_import.proofs.Layouts.{layout_points, layout_valid}
 
 -- the largest code of a depth is one of a header's
@@ -89,7 +89,7 @@ module _ (f : Facts) (packed : List ℕ) (k : Known f) (b : are_bytes packed ≡
   codes-long = length-tabulate (length (codes_of l packed)) (λ i. (converted_at (full_of l) (codes_of l packed) i).code) ∙ length-codes l (points_of f) packed line
 
   -- its header is read
-  pub header : read_header (picture_of f packed) ≡ Of f.width f.height top head
+  pub header : read_header (picture_of f packed) ≡ Ok (record { width = f.width; height = f.height; top = top; length = head })
   unfolding picture_of header_of_facts
   header =
       let s = says f k.facts in

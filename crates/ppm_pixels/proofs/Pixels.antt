@@ -11,17 +11,14 @@ use lib.ListN.{length, get_or}
 use Rattle.lists.specs.Lists.{new_or_kept}
 use Rattle.lists.proofs.Bytes.{are_bytes_lem}
 use Rattle.lists.proofs.Tests.{pass, stop}
-use Rattle.refusal.specs.Refusal.{outside, wrong_line_or_output}
 use Rattle.layout.specs.declared.Layout.{Layout}
 use Rattle.parameters.specs.declared.depth.Depth.{Depth}
 use Rattle.parameters.specs.Parameters.{bits_of, depth_of}
 use Rattle.layout.specs.Layout.{grouped, points_each, valid_layout}
 use Rattle.parameters.proofs.Depths.{known-bits}
 use Rattle.layout.proofs.Facts.{valid_says}
-use Rattle.line.specs.declared.LineAnswer.{LineAnswer}
-use Rattle.line.specs.declared.LineAnswer.TheVariants.{Refused}
 use Rattle.line.specs.Line.{points_in, codes_of, PackedLine}
-use Rattle.line.specs.Answer.{unpackable, unpack_answer, unpack_output, accepted}
+use Rattle.line.specs.Answer.{unpackable, unpack_answer, unpack_output}
 use Rattle.scanline_laws.proofs.Claims.{codes-within}
 use Rattle.parts.proofs.Parts.{Parts, parts_then, parts_many}
 use Rattle.parts.proofs.Lines.{codes_parts, converted_parts}
@@ -35,6 +32,9 @@ use Rattle.ppm_raster.specs.Raster.{code_bytes, raster_by, stored_by}
 use Rattle.ppm_raster.proofs.Rasters.{stored, holds-so}
 use Rattle.ppm_raster.proofs.Parts.{raster_parts, some_bytes}
 use Rattle.ppm_pixels.specs.Pixels.{pixels_of}
+use Rattle.std.specs.Prelude.{Result, Err, is_ok}
+use Rattle.refusal.specs.declared.Refusal.TheVariants.{Outside, WrongLineOrOutput}
+use Rattle.refusal.specs.declared.Refusal.{Refusal}
 use Rattle.ppm_pixels.specs.inner.Unit.{unit_codes, unit_bytes, Ready}
 
 -- one point or two
@@ -108,7 +108,7 @@ module _ (l : Layout) (d : Depth) (way : Way) (r : Ready l d way) (s : List ℕ)
       let rest : length s % l.bytes ≡ 0 = ap (λ (x : ℕ). x % l.bytes) e ∙ mul-mod_right l.bytes k in
       let count : length before ≡ 3 * points_in l (length s) = o ∙ mul_assoc 3 (points_each l) k ∙ ap (λ (x : ℕ). 3 * x) (sym points) in
       let fits : unpackable l (length s) (length before) ≡ true = λ i. eq-eqb (length s % l.bytes) 0 rest i && le-leb (points_in l (length s)) 4096 (omega (arith, points, few)) i && eq-eqb (length before) (3 * points_in l (length s)) count i in
-      ap (λ (a : LineAnswer). new_or_kept (accepted a) (codes_of l s) before) (pass (Refused outside) (ap not r.valid) (pass (Refused wrong_line_or_output) (ap not fits) refl))
+      ap (λ (a : Result ℕ Refusal). new_or_kept (is_ok a) (codes_of l s) before) (pass (Err Outside) (ap not r.valid) (pass (Err WrongLineOrOutput) (ap not fits) refl))
 
   pub converted : (before : List ℕ) → length before ≡ 3 * points_each l * k → full_by way (codes_of l s) before ≡ full_codes l (codes_of l s)
   converted before o =

@@ -10,7 +10,7 @@ ghost use Rattle.ppm_pixels.specs.inner.Unit.{unit_codes, unit_bytes, Ready};
 
 use full_rgb::Way;
 use layout::Layout;
-use parameters::{Depth, KnownDepth};
+use parameters::Depth;
 
 // The most codes of a block, three a point.
 const CODES: usize = 480;
@@ -38,7 +38,8 @@ fn block(
     requires codes_len { (length codes.old ≡ unit_codes layout * n) × (length full.old ≡ unit_codes layout * n) }
     ensures { out.new ≡ pixels_of layout packed.now }
 {
-    unpacking::unpack_line(layout, packed, codes);
+    // (Lines of these lengths are not refused.)
+    let _ = unpacking::unpack_line(layout, packed, codes);
     full_rgb::convert(way, codes, full);
     ppm_raster::put_codes(depth, full, out);
 }
@@ -64,10 +65,12 @@ fn blocks(
     let mut codes = [0u16; CODES];
     let mut full = [0u16; CODES];
     let most = CODES / each;
+
+    // By index: of an output that is lent in pieces by `chunks_mut` nothing but its length would be known.
     let mut i: usize = 0;
     while i < n {
         let left = n - i;
-        let k = if left < most { left } else { most };
+        let k = left.min(most);
         let next = i + k;
         let from = size * i;
         let to = size * next;
@@ -113,7 +116,7 @@ pub fn put(layout: Layout, packed: &[u8], out: &mut [u8])
         return;
     }
     match Depth::of(layout.depth) {
-        KnownDepth::Known(depth) => all(layout, depth, packed, out),
-        KnownDepth::Unknown => {}
+        Some(depth) => all(layout, depth, packed, out),
+        None => {}
     }
 }

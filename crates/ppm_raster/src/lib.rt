@@ -25,8 +25,8 @@ pub fn put_codes(depth: Depth, codes: &[u16], out: &mut [u8])
     ensures memory { out.new ≡ raster_output (bits_of depth) codes.now out.old }
 {
     if code_bytes(depth) == 1 {
-        store::single(codes, out);
+        store::codes::<1>(codes, out);
     } else {
-        store::double(codes, out);
+        store::codes::<2>(codes, out);
     }
 }

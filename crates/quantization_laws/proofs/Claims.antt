@@ -17,16 +17,12 @@ use Rattle.parameters.specs.declared.kind.Kind.{Kind}
 use Rattle.parameters.specs.declared.kind.Kind.TheVariants.{Brightness, Difference}
 use Rattle.parameters.specs.Parameters.{model_known, range_known, range_of, depth_known, channel_known, top_of, kind_of}
 use Rattle.parameters.proofs.Depths.{Steps, steps, known_between}
-use Rattle.quantization.specs.declared.code.Coded.{Coded}
-use Rattle.quantization.specs.declared.code.Coded.TheVariants.{Code as Found, NotANumber}
-use Rattle.quantization.specs.declared.Dequantized.TheVariants.{Refused as NoValue}
-use Rattle.quantization.specs.declared.Quantized.{Quantized}
-use Rattle.quantization.specs.declared.Quantized.TheVariants.{Code, Refused as NoCode}
 use Rattle.scale.specs.Scale.{scale_of}
 use Rattle.scale.specs.Value.{fraction_of, value_of}
 use Rattle.quantization.specs.Code.{code_of_value, code_of}
+use Rattle.quantization.specs.declared.Dequantized.TheVariants.{Refused}
 use Rattle.scales.specs.Channel.{channel_known_at, channel_scale}
-use Rattle.quantization.specs.Answer.{named, dequantized, or_refused, quantized}
+use Rattle.quantization.specs.Answer.{named, dequantized, quantized}
 use Rattle.scale.proofs.Scales.{ends}
 use Rattle.float_scale.proofs.Fine.{fine}
 use Rattle.quantization_laws.specs.Claims.{Dequantizes, Quantizes, QuantizesOthers, QuantizesWithinEnds, CutsToAnEnd, ZeroIsPlus, Returns, ReturnsEvery, ReturnsExcluded, QuantizingRises}
@@ -37,6 +33,9 @@ use Rattle.quantization_laws.proofs.Pattern.{pattern_code}
 use Rattle.quantization_laws.proofs.Return.{code_returns}
 use Rattle.quantization_laws.proofs.Nearest.{code_nearest, zero_plus}
 use Rattle.quantization_laws.proofs.Distances.{nearest_same}
+use Rattle.std.specs.Prelude.{Result, Ok, Err, Option, Some, None, ok_or}
+use Rattle.refusal.specs.declared.Refusal.{Refusal}
+use Rattle.refusal.specs.declared.Refusal.TheVariants.{CodeTooHigh, NotANumber, Outside}
 use Rattle.quantization_laws.proofs.Rising.{codes_rise}
 
 -- what a known channel says of its depth: the laws are proved for depths from 8 to 12
@@ -78,17 +77,21 @@ dequantizes model range n channel c e h =
       nearest_same (fraction_of sc c) (printed_value r k n c) (value_of sc c) (printed_over r k n c d.stepped) (value_printed r k n c d.stepped) (code_nearest r k n c d.least d.most h),
     )
 
+-- the answer of a code, or the refusal of a NaN
+abbrev answered : Option Clamped → Result Clamped Refusal
+answered x = ok_or x NotANumber
+
 pub quantizes : Quantizes
 unfolding quantized
 quantizes model range n channel bits e h =
     let d = says model range n channel e in
     pass _ (ap not e)
-    (ap or_refused (pattern_code (channel_scale model range n channel) (fine (range_of range) (kind_of model channel) n d.stepped).zero bits h)
-    ∙ ap Code (code_printed (range_of range) (kind_of model channel) n (pattern_value bits) d.depth-known d.stepped))
+    (ap answered (pattern_code (channel_scale model range n channel) (fine (range_of range) (kind_of model channel) n d.stepped).zero bits h)
+    ∙ ap Ok (code_printed (range_of range) (kind_of model channel) n (pattern_value bits) d.depth-known d.stepped))
 
 -- a code that was cut
-abbrev cut_at : ℕ → Quantized
-cut_at c = Code (record { code = c; cut = true })
+abbrev cut_at : ℕ → Result Clamped Refusal
+cut_at c = Ok (record { code = c; cut = true })
 
 pub quantizes_others : QuantizesOthers
 unfolding quantized code_of
@@ -98,15 +101,15 @@ quantizes_others model range n channel e =
     (pass _ (ap not e) (ap cut_at (q.1 ∙ f.1)), pass _ (ap not e) (ap cut_at (q.0 ∙ f.0)), pass _ (ap not e) refl)
 
 -- what quantizing answers was clamped to the ends
-answer-kept : (model range n channel : ℕ) (v : Float) (c : Clamped) → quantized model range n channel v ≡ Code c → Kept (printed_low (range_of range) n) (printed_high (range_of range) n) c
+answer-kept : (model range n channel : ℕ) (v : Float) (c : Clamped) → quantized model range n channel v ≡ Ok c → Kept (printed_low (range_of range) n) (printed_high (range_of range) n) c
 unfolding quantized
 answer-kept model range n channel v c e = go (channel_known_at model range n channel) refl e
   where
-    coded : (x : Coded) → or_refused x ≡ Code c → x ≡ Found c
-    coded (Found d) e = cc
-    coded NotANumber e = let z : ◌≡◌ {A = ℕ} 0 1 = cc in absurd (omega arith)
+    coded : (x : Option Clamped) → answered x ≡ Ok c → x ≡ Some c
+    coded (Some d) e = cc
+    coded None e = let z : ◌≡◌ {A = ℕ} 0 1 = cc in absurd (omega arith)
 
-    go : (t : Bool) → channel_known_at model range n channel ≡ t → cond (not t) (NoCode 9) (or_refused (code_of (channel_scale model range n channel) v)) ≡ Code c → Kept (printed_low (range_of range) n) (printed_high (range_of range) n) c
+    go : (t : Bool) → channel_known_at model range n channel ≡ t → cond (not t) (Err Outside) (answered (code_of (channel_scale model range n channel) v)) ≡ Ok c → Kept (printed_low (range_of range) n) (printed_high (range_of range) n) c
     go false k e = let z : ◌≡◌ {A = ℕ} 0 1 = cc in absurd (omega arith)
     go true k e = code_kept n (says model range n channel k).depth-known (range_of range) (kind_of model channel) v c (coded (code_of (channel_scale model range n channel) v) e)
 
@@ -131,7 +134,7 @@ zero_is_plus model range n channel c e h z =
     pass _ (ap not e) (pass _ (le-ltb (top_of n) c h) (ap (named k) (ap (value_of (scale_of r n k)) base ∙ zero_plus r k n d.least d.most)))
 
 -- a value is no refusal, and is told by its answer
-not_refused : (k : Kind) (v : Float) (n : ℕ) → NoValue n ≡ named k v → ⊥
+not_refused : (k : Kind) (v : Float) (n : Refusal) → Refused n ≡ named k v → ⊥
 not_refused Brightness v n e = let z : ◌≡◌ {A = ℕ} 0 1 = cc in omega arith
 not_refused Difference v n e = let z : ◌≡◌ {A = ℕ} 0 1 = cc in omega arith
 
@@ -140,20 +143,20 @@ told Brightness v w e = cc
 told Difference v w e = cc
 
 -- a code that has a value is one of its depth, and comes back clamped
-pub record Back (range n c : ℕ) (answer : Quantized) : Type 0 where
+pub record Back (range n c : ℕ) (answer : Result Clamped Refusal) : Type 0 where
   pub known : Says n
   pub small : c ≤ top_of n
-  pub back : answer ≡ Code (clamped (printed_low (range_of range) n) (printed_high (range_of range) n) (pos c))
+  pub back : answer ≡ Ok (clamped (printed_low (range_of range) n) (printed_high (range_of range) n) (pos c))
 
 comes_back : (model range n channel c : ℕ) (v : Float) → dequantized model range n channel c ≡ named (kind_of model channel) v → Back range n c (quantized model range n channel v)
 unfolding dequantized quantized
 comes_back model range n channel c v e = go (channel_known_at model range n channel) (ltb (top_of n) c) refl refl e
   where
     go : (t h : Bool) → channel_known_at model range n channel ≡ t → ltb (top_of n) c ≡ h
-        → cond (not t) (NoValue 9) (cond h (NoValue 14) (named (kind_of model channel) (value_of (channel_scale model range n channel) c))) ≡ named (kind_of model channel) v
-        → Back range n c (cond (not t) (NoCode 9) (or_refused (code_of (channel_scale model range n channel) v)))
-    go false h p q e = absurd (not_refused (kind_of model channel) v 9 e)
-    go true true p q e = absurd (not_refused (kind_of model channel) v 14 e)
+        → cond (not t) (Refused Outside) (cond h (Refused CodeTooHigh) (named (kind_of model channel) (value_of (channel_scale model range n channel) c))) ≡ named (kind_of model channel) v
+        → Back range n c (cond (not t) (Err Outside) (answered (code_of (channel_scale model range n channel) v)))
+    go false h p q e = absurd (not_refused (kind_of model channel) v Outside e)
+    go true true p q e = absurd (not_refused (kind_of model channel) v CodeTooHigh e)
     go true false p q e =
         let d = says model range n channel p in
         let h = ltb-false (top_of n) c q in
@@ -161,9 +164,9 @@ comes_back model range n channel c v e = go (channel_known_at model range n chan
         record {
           known = d;
           small = h;
-          back = ap (λ (x : Float). or_refused (code_of (channel_scale model range n channel) x)) (sym (told (kind_of model channel) (value_of (channel_scale model range n channel) c) v e))
-              ∙ ap or_refused (code_returns (range_of range) (kind_of model channel) n c d.least d.most h)
-              ∙ ap₂ (λ (x y : ℕ). Code (clamped x y (pos c))) f.0 f.1;
+          back = ap (λ (x : Float). answered (code_of (channel_scale model range n channel) x)) (sym (told (kind_of model channel) (value_of (channel_scale model range n channel) c) v e))
+              ∙ ap answered (code_returns (range_of range) (kind_of model channel) n c d.least d.most h)
+              ∙ ap₂ (λ (x y : ℕ). Ok (clamped x y (pos c))) f.0 f.1;
         }
 
 pub returns : Returns
@@ -172,12 +175,12 @@ returns model range n channel c v e = (comes_back model range n channel c v e).b
 pub returns_every : ReturnsEvery
 returns_every model range n channel c v e x =
     let b = comes_back model range n channel c v e in
-    b.back ∙ ap Code (included_code n b.known.depth-known (range_of range) c b.small x)
+    b.back ∙ ap Ok (included_code n b.known.depth-known (range_of range) c b.small x)
 
 pub returns_excluded : ReturnsExcluded
 returns_excluded model range n channel c v e x =
     let b = comes_back model range n channel c v e in
-    b.back ∙ ap Code (excluded_code n b.known.depth-known (range_of range) c x)
+    b.back ∙ ap Ok (excluded_code n b.known.depth-known (range_of range) c x)
 
 -- every scale of the paper has its low end not above its high end
 pub quantizing_rises : QuantizingRises
@@ -185,4 +188,4 @@ unfolding quantized
 quantizing_rises model range n channel x y e h =
     let d = says model range n channel e in
     let (a, b, p, q, l) = codes_rise (channel_scale model range n channel) x y (fine (range_of range) (kind_of model channel) n d.stepped).order h in
-    (a, b, pass _ (ap not e) (ap or_refused p), pass _ (ap not e) (ap or_refused q), l)
+    (a, b, pass _ (ap not e) (ap answered p), pass _ (ap not e) (ap answered q), l)

@@ -25,8 +25,8 @@ use Rattle.parameters.proofs.Depths.{Steps, known-bits}
 use Rattle.scale.specs.Scale.{low_end, high_end, scale_of}
 use Rattle.scale.specs.Value.{fraction_of}
 use Rattle.scale.proofs.Scales.{ends}
-use Rattle.quantization.specs.declared.code.Coded.TheVariants.{Code}
 use Rattle.quantization.specs.Code.{unclamped, code_of_value, exact, code_of}
+use Rattle.std.specs.Prelude.{Some}
 use Rattle.quantization_laws.specs.Printed.{half, printed_value, printed_unclamped, printed_low, printed_high, WithinEnds, nearer_end, excluded}
 
 -- s (a v + b) = (a s) v + b s
@@ -183,7 +183,7 @@ module _ (n : ℕ) (d : depth_known n ≡ true) where
       let f = ends_printed r in
       subst (Kept (printed_low r n) (printed_high r n)) (λ i. clamped (sym (e.0 ∙ f.0) i) (sym (e.1 ∙ f.1) i) (unclamped sc v)) (kept (printed_low r n) (printed_high r n) (ordered r) (unclamped sc v))
 
-  pub code_kept : (r : Range) (k : Kind) (v : Float) (c : Clamped) → code_of (scale_of r n k) v ≡ Code c → Kept (printed_low r n) (printed_high r n) c
+  pub code_kept : (r : Range) (k : Kind) (v : Float) (c : Clamped) → code_of (scale_of r n k) v ≡ Some c → Kept (printed_low r n) (printed_high r n) c
   unfolding code_of
   code_kept r k nan c e = let z : ◌≡◌ {A = ℕ} 0 1 = cc in absurd (omega arith)
   code_kept r k (inf false) c e =

@@ -17,7 +17,6 @@ use Rattle.parameters.proofs.Depths.{steps}
 use Rattle.fractions.specs.Fraction.{bounded, is_cut, clamped}
 use Rattle.fractions.proofs.Cuts.{outside}
 use Rattle.scale.specs.declared.Scale.{Scale}
-use Rattle.quantization.specs.declared.code.Coded.TheVariants.{Code}
 use Rattle.scale.specs.Scale.{low_end, high_end, scale_of}
 use Rattle.scale.specs.Value.{value_of}
 use Rattle.quantization.specs.Code.{code_of}
@@ -27,6 +26,7 @@ use Rattle.quantization.proofs.Codes.{Small, whole_code, code_of_value_lem, quot
 use Rattle.scale.proofs.Scales.{ends}
 use Rattle.float_scale.proofs.Fine.{fine}
 use Rattle.quantization_laws.proofs.Units.{U, Near, unit, unit_lt, kept_near, grid_is, round_value}
+use Rattle.std.specs.Prelude.{Some}
 use Rattle.quantization_laws.proofs.Values.{gap, value_rounds}
 
 -- strictly between c and c + 1, with 4096 more, a number lies outside the ends exactly if c does: also where the lower end is strict
@@ -72,7 +72,7 @@ lands sc c g u b B n =
         (omega arith, omega arith, λ m. omega arith)
 
 -- at any scale: the code, clamped, and cut exactly if it lies outside the ends
-pub code_returns_clamped : (sc : Scale) → Small sc → 0 < sc.span → (strictly sc.rounding ≡ true → sc.low ≡ 0) → (c : ℕ) → c < 2 ^ 16 → code_of sc (value_of sc c) ≡ Code (clamped sc.low sc.high (pos c))
+pub code_returns_clamped : (sc : Scale) → Small sc → 0 < sc.span → (strictly sc.rounding ≡ true → sc.low ≡ 0) → (c : ℕ) → c < 2 ^ 16 → code_of sc (value_of sc c) ≡ Some (clamped sc.low sc.high (pos c))
 code_returns_clamped sc k S zero c h =
     let s = ltb c sc.base in
     let d = gap c sc.base in
@@ -81,7 +81,7 @@ code_returns_clamped sc k S zero c h =
     let g = grid binary32 d p in
     ap (code_of sc) (value_rounds sc c S)
     ∙ code_of_value_lem sc zero _ s g U (pow_pos 149) (round_value d p S k.span D s)
-    ∙ ap Code (lands sc c g U (unit d p) (unit_lt d p S k.span D) (subst (λ (x : ℕ). Near x (d * U) (unit d p)) (sym (grid_is d p S k.span D)) (kept_near d p S k.span D)))
+    ∙ ap Some (lands sc c g U (unit d p) (unit_lt d p S k.span D) (subst (λ (x : ℕ). Near x (d * U) (unit d p)) (sym (grid_is d p S k.span D)) (kept_near d p S k.span D)))
 
 -- ---- the paper's scales, once over n
 pub record Paper (sc : Scale) : Type 0 where
@@ -95,10 +95,10 @@ paper r k n lo hi =
     record { small = record { base = omega (arith, f.base); span = omega (arith, f.span); high = omega (arith, f.high) }; some = f.some; zero = f.zero }
 
 -- every code of every range, kind and depth comes back, clamped, and cut exactly if it lies outside the ends
-pub code_returns : (r : Range) (k : Kind) (n c : ℕ) → 8 ≤ n → n ≤ 12 → c ≤ top_of n → code_of (scale_of r n k) (value_of (scale_of r n k) c) ≡ Code (clamped (low_end r n) (high_end r n) (pos c))
+pub code_returns : (r : Range) (k : Kind) (n c : ℕ) → 8 ≤ n → n ≤ 12 → c ≤ top_of n → code_of (scale_of r n k) (value_of (scale_of r n k) c) ≡ Some (clamped (low_end r n) (high_end r n) (pos c))
 code_returns r k n c lo hi h =
     let sc = scale_of r n k in
     let q = paper r k n lo hi in
     let t = steps n lo hi in
     let e = ends r k n in
-    code_returns_clamped sc q.small q.some q.zero c (omega arith) ∙ ap₂ (λ (x y : ℕ). Code (clamped x y (pos c))) e.0 e.1
+    code_returns_clamped sc q.small q.some q.zero c (omega arith) ∙ ap₂ (λ (x y : ℕ). Some (clamped x y (pos c))) e.0 e.1

@@ -3,7 +3,6 @@
 // A line has a row of a table: the code of each channel that it speaks of, R' G' B' Y', or Cb Cr.
 #![tactic(auto)]
 
-use quantization::Quantized;
 use std::io;
 use std::io::Print;
 
@@ -17,8 +16,8 @@ fn printed(outcome: io::Result<()>) {
 
 fn print_code(rt: &impl Print, model: u8, range: u8, depth: u8, channel: u8, value: f32) {
     match quantization::quantize(model, range, depth, channel, value) {
-        Quantized::Code(clamped) => printed(print!(rt; " {}", clamped.code)),
-        Quantized::Refused(number) => printed(print!(rt; " refused {number}")),
+        Ok(clamped) => printed(print!(rt; " {}", clamped.code)),
+        Err(refusal) => printed(print!(rt; " refused {}", refusal.number())),
     }
 }
 

@@ -12,19 +12,24 @@ use Rattle.parameters.specs.declared.kind.Kind.TheVariants.{Brightness, Differen
 use Rattle.parameters.specs.Parameters.{step_of, top_of}
 use Rattle.parameters.proofs.Depths.{Steps}
 use Rattle.scale.specs.declared.Scale.{Scale}
+use Rattle.scale.specs.declared.Rounding.{Rounding}
 use Rattle.scale.specs.declared.Rounding.TheVariants.{HalfUp, HalfAway}
 use Rattle.scale.specs.Scale.{low_end, high_end, scale_of}
 
--- what the code makes of a step, a highest code and two ends
-abbrev pub scale_by : Range → (s m low high : ℕ) → Kind → Scale
-scale_by Narrow s m low high Brightness = record { base = 16 * s; span = 219 * s; top = m; low = low; high = high; rounding = HalfUp }
-scale_by Narrow s m low high Difference = record { base = 128 * s; span = 224 * s; top = m; low = low; high = high; rounding = HalfUp }
-scale_by Full s m low high Brightness = record { base = 0; span = m; top = m; low = low; high = high; rounding = HalfAway }
-scale_by Full s m low high Difference = record { base = (m + 1) / 2; span = m; top = m; low = low; high = high; rounding = HalfAway }
-scale_by LegacyFull s m low high Brightness = record { base = 0; span = m + 1; top = m; low = low; high = high; rounding = HalfUp }
-scale_by LegacyFull s m low high Difference = record { base = (m + 1) / 2; span = m + 1; top = m; low = low; high = high; rounding = HalfUp }
+-- base, span and rounding, as the code makes them of a step and a highest code
+abbrev pub parts_by : Range → (s m : ℕ) → Kind → ℕ × ℕ × Rounding
+parts_by Narrow s m Brightness = (16 * s, 219 * s, HalfUp)
+parts_by Narrow s m Difference = (128 * s, 224 * s, HalfUp)
+parts_by Full s m Brightness = (0, m, HalfAway)
+parts_by Full s m Difference = ((m + 1) / 2, m, HalfAway)
+parts_by LegacyFull s m Brightness = (0, m + 1, HalfUp)
+parts_by LegacyFull s m Difference = ((m + 1) / 2, m + 1, HalfUp)
 
-pub by_step : (r : Range) (k : Kind) (n : ℕ) → Steps n → scale_by r (step_of n) (top_of n) (low_end r n) (high_end r n) k ≡ scale_of r n k
+-- and the scale of them, a highest code and two ends
+abbrev pub scale_by : ℕ × ℕ × Rounding → (m low high : ℕ) → Scale
+scale_by b m low high = record { base = b.0; span = b.1; top = m; low = low; high = high; rounding = b.2 }
+
+pub by_step : (r : Range) (k : Kind) (n : ℕ) → Steps n → scale_by (parts_by r (step_of n) (top_of n) k) (top_of n) (low_end r n) (high_end r n) ≡ scale_of r n k
 unfolding scale_of
 by_step Narrow Brightness n h = refl
 by_step Narrow Difference n h = refl

@@ -33,27 +33,19 @@ pub struct Scale {
 fn low_end(range: Range, depth: Depth) -> u16
     ensures { result ≡ low_end range (bits_of depth) }
 {
-    let s = depth.step();
     match range {
-        Range::Narrow => s,
-        Range::Full => 0,
-        Range::LegacyFull => 0,
+        Range::Narrow => depth.step(),
+        Range::Full | Range::LegacyFull => 0,
     }
 }
 
 fn high_end(range: Range, depth: Depth) -> u16
     ensures { result ≡ high_end range (bits_of depth) }
 {
-    let s = depth.step();
-    let m = depth.top();
-    match range {
-        Range::Narrow => 255 * s - 1,
-        Range::Full => m,
-        Range::LegacyFull => match depth {
-            Depth::Eight => 255,
-            Depth::Ten => 1023,
-            Depth::Twelve => 4092,
-        },
+    match (range, depth) {
+        (Range::Narrow, _) => 255 * depth.step() - 1,
+        (Range::LegacyFull, Depth::Twelve) => 4092,
+        (Range::Full | Range::LegacyFull, _) => depth.top(),
     }
 }
 
@@ -66,63 +58,21 @@ impl Scale {
         let m = depth.top();
         let whole = m + 1;
         let middle = (m + 1) / 2;
-        let low = low_end(range, depth);
-        let high = high_end(range, depth);
-        match range {
-            Range::Narrow => match kind {
-                Kind::Brightness => Scale {
-                    base: 16 * s,
-                    span: 219 * s,
-                    top: m,
-                    low,
-                    high,
-                    rounding: Rounding::HalfUp,
-                },
-                Kind::Difference => Scale {
-                    base: 128 * s,
-                    span: 224 * s,
-                    top: m,
-                    low,
-                    high,
-                    rounding: Rounding::HalfUp,
-                },
-            },
-            Range::Full => match kind {
-                Kind::Brightness => Scale {
-                    base: 0,
-                    span: m,
-                    top: m,
-                    low,
-                    high,
-                    rounding: Rounding::HalfAway,
-                },
-                Kind::Difference => Scale {
-                    base: middle,
-                    span: m,
-                    top: m,
-                    low,
-                    high,
-                    rounding: Rounding::HalfAway,
-                },
-            },
-            Range::LegacyFull => match kind {
-                Kind::Brightness => Scale {
-                    base: 0,
-                    span: whole,
-                    top: m,
-                    low,
-                    high,
-                    rounding: Rounding::HalfUp,
-                },
-                Kind::Difference => Scale {
-                    base: middle,
-                    span: whole,
-                    top: m,
-                    low,
-                    high,
-                    rounding: Rounding::HalfUp,
-                },
-            },
+        let (base, span, rounding) = match (range, kind) {
+            (Range::Narrow, Kind::Brightness) => (16 * s, 219 * s, Rounding::HalfUp),
+            (Range::Narrow, Kind::Difference) => (128 * s, 224 * s, Rounding::HalfUp),
+            (Range::Full, Kind::Brightness) => (0, m, Rounding::HalfAway),
+            (Range::Full, Kind::Difference) => (middle, m, Rounding::HalfAway),
+            (Range::LegacyFull, Kind::Brightness) => (0, whole, Rounding::HalfUp),
+            (Range::LegacyFull, Kind::Difference) => (middle, whole, Rounding::HalfUp),
+        };
+        Scale {
+            base,
+            span,
+            top: m,
+            low: low_end(range, depth),
+            high: high_end(range, depth),
+            rounding,
         }
     }
 

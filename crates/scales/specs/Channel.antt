@@ -1,10 +1,8 @@
 -- Document 01, "Codes and floats": the scale of a channel, by the paper's numbers. Assumes nothing.
-use Rattle.std.specs.Prelude.{ℕ, Bool, cond, ◌&&◌}
+use Rattle.std.specs.Prelude.{ℕ, Bool, cond, ◌&&◌, Option, Some, None}
 use Rattle.layout.specs.declared.Layout.{Layout}
 use Rattle.parameters.specs.Parameters.{model_known, range_known, range_of, depth_known, channel_known, kind_of}
 use Rattle.scale.specs.declared.Scale.{Scale}
-use Rattle.scales.specs.declared.channel.ChannelScale.{ChannelScale}
-use Rattle.scales.specs.declared.channel.ChannelScale.TheVariants.{Known, Unknown}
 use Rattle.scale.specs.Scale.{scale_of}
 
 -- the paper has this channel, at this range and depth n
@@ -16,8 +14,8 @@ abbrev pub channel_scale : ℕ → ℕ → ℕ → ℕ → Scale
 channel_scale model range n channel = scale_of (range_of range) n (kind_of model channel)
 
 -- or that there is none
-abbrev pub known_scale : ℕ → ℕ → ℕ → ℕ → ChannelScale
-known_scale model range n channel = cond (channel_known_at model range n channel) (Known (channel_scale model range n channel)) Unknown
+abbrev pub known_scale : ℕ → ℕ → ℕ → ℕ → Option Scale
+known_scale model range n channel = cond (channel_known_at model range n channel) (Some (channel_scale model range n channel)) None
 
 -- the scale of channel j of a layout
 abbrev pub scale_at : Layout → ℕ → Scale

@@ -4,5 +4,5 @@
 mod channel;
 mod channels;
 
-pub use channel::ChannelScale;
-pub use channels::{LayoutScales, Scales};
+pub use channel::known_scale;
+pub use channels::{of_groups, of_points};

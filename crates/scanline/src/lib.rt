@@ -2,9 +2,9 @@
 // line of one; and one channel's field of a point.
 #![tactic(auto)]
 
-pub use decoding::{DecodedPoint, decode_line, decode_point};
+pub use decoding::{decode_line, decode_point};
 pub use encoding::{encode_line, encode_point};
-pub use field::{Field, FieldBytes, FieldCode, field_bytes, field_code};
-pub use line::{ClampedAnswer, LineAnswer, Point};
+pub use field::{Field, field_bytes, field_code};
+pub use line::Point;
 pub use packing::pack_line;
 pub use unpacking::unpack_line;

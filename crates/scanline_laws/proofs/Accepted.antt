@@ -12,9 +12,9 @@ use Rattle.lists.proofs.Tests.{pass}
 use Rattle.layout.specs.declared.Layout.{Layout}
 use Rattle.layout.specs.Layout.{points_each, whole_groups, valid_groups, valid_layout}
 use Rattle.layout.proofs.Facts.{valid_says}
-use Rattle.line.specs.declared.LineAnswer.TheVariants.{Points}
 use Rattle.line.specs.Line.{points_in, bytes_for, PackedLine, CodeLine}
 use Rattle.line.proofs.Grouped.{group_odd}
+use Rattle.std.specs.Prelude.{Ok}
 use Rattle.line.specs.Answer.{most_points, unpackable, odd_points, packable, unpack_answer, pack_answer}
 
 -- n points in whole groups, and their bytes
@@ -60,16 +60,16 @@ too_many l n size bytes h e =
     let part = eqb (size % 3) 0 in
     ap (λ (t : Bool). t && eqb bytes (bytes_for l (size / 3))) (ap (λ (t : Bool). part && t) (lt-leb (size / 3) 4096 (omega arith)) ∙ and-false part)
 
-pub packing_accepted : (l : Layout) (n : ℕ) (cs : List ℕ) (bytes : ℕ) → CodeLine l n cs → bytes ≡ bytes_for l n → n ≤ most_points → pack_answer l cs bytes ≡ Points n
+pub packing_accepted : (l : Layout) (n : ℕ) (cs : List ℕ) (bytes : ℕ) → CodeLine l n cs → bytes ≡ bytes_for l n → n ≤ most_points → pack_answer l cs bytes ≡ Ok n
 unfolding pack_answer
 packing_accepted l n cs bytes p e h =
     pass _ (ap not p.valid)
     (pass _ (even_points l p.valid n p.whole (length cs) p.points)
     (pass _ (ap not (can_pack l p.valid n p.whole (length cs) bytes p.points e h))
-    (pass _ (ap not p.codes) (ap Points (points_in_lem l p.valid n p.whole bytes e)))))
+    (pass _ (ap not p.codes) (ap Ok (points_in_lem l p.valid n p.whole bytes e)))))
 
-pub unpacking_accepted : (l : Layout) (n : ℕ) (s : List ℕ) (codes : ℕ) → PackedLine l n s → codes ≡ 3 * n → n ≤ most_points → unpack_answer l (length s) codes ≡ Points n
+pub unpacking_accepted : (l : Layout) (n : ℕ) (s : List ℕ) (codes : ℕ) → PackedLine l n s → codes ≡ 3 * n → n ≤ most_points → unpack_answer l (length s) codes ≡ Ok n
 unfolding unpack_answer
 unpacking_accepted l n s codes p e h =
     pass _ (ap not p.valid)
-    (pass _ (ap not (can_unpack l p.valid n p.whole (length s) codes p.points e h)) (ap Points (points_in_lem l p.valid n p.whole (length s) p.points)))
+    (pass _ (ap not (can_unpack l p.valid n p.whole (length s) codes p.points e h)) (ap Ok (points_in_lem l p.valid n p.whole (length s) p.points)))

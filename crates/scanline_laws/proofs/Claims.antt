@@ -18,7 +18,6 @@ use Rattle.layout.specs.declared.Layout.{Layout}
 use Rattle.parameters.specs.Parameters.{top_of}
 use Rattle.layout.specs.Layout.{whole_groups, valid_groups, valid_layout}
 use Rattle.layout.proofs.Facts.{one_of_two, not_grouped, groups_say, groups_valid, odd_of_groups}
-use Rattle.line.specs.declared.LineAnswer.TheVariants.{Points}
 use Rattle.line.specs.Group.{group_code, group_byte}
 use Rattle.line.specs.Line.{point_code, code_at, points_in, codes_of, point_byte, byte_at, bytes_for, packed_of, shared, codes_within, PackedLine, CodeLine}
 use Rattle.line.specs.Answer.{unpack_answer, pack_answer}
@@ -32,6 +31,7 @@ use Rattle.scanline_laws.proofs.Cleared.{codes_small, pack_unpack}
 use Rattle.scanline_laws.proofs.Back.{packed-bytes, unpack_pack}
 use Rattle.scanline_laws.proofs.Whole.{cleared_same}
 use Rattle.scanline_laws.proofs.Accepted.{points_in_lem, even_points, odd_points_lem, part-points, too_many, packing_accepted, unpacking_accepted}
+use Rattle.std.specs.Prelude.{Ok}
 use Rattle.scanline_laws.proofs.Looked.{shared_same, every-shared, packed_alike, answered_alike, packs_shared}
 
 -- ---- of groups: how many there are
@@ -106,7 +106,7 @@ pub counts_two_a_group : CountsTwoAGroup
 unfolding unpack_answer
 counts_two_a_group l g ok h =
     let fits = ap₂ ◌&&◌ (ap₂ ◌&&◌ (eq-eqb (4 * g % 4) 0 (omega arith)) (le-leb (2 * (4 * g / 4)) 4096 (omega arith))) (eq-eqb (6 * g) (3 * (2 * (4 * g / 4))) (omega arith)) in
-    pass _ (ap not (groups_valid l ok)) (pass _ (ap not (group_unpackable l ok (4 * g) (6 * g) ∙ fits)) (ap Points (group_points l ok (4 * g) ∙ omega arith)))
+    pass _ (ap not (groups_valid l ok)) (pass _ (ap not (group_unpackable l ok (4 * g) (6 * g) ∙ fits)) (ap Ok (group_points l ok (4 * g) ∙ omega arith)))
 
 pub odd_in_numbers : OddInNumbers
 odd_in_numbers l size = ap (λ (t : Bool). eqb (size % 3) 0 && t) (odd_of_groups l (size / 3))

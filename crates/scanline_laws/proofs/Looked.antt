@@ -15,10 +15,11 @@ use Rattle.lists.proofs.Lists.{length-tabulate, get_or-tabulate, is_tabulate, ta
 use Rattle.layout.specs.declared.Layout.{Layout}
 use Rattle.layout.specs.Layout.{grouped, valid_layout}
 use Rattle.line.specs.Group.{code_of_byte, group_byte, second_color}
-use Rattle.line.specs.declared.LineAnswer.TheVariants.{Points, Refused}
 use Rattle.line.specs.Point.{in_place}
 use Rattle.line.specs.Line.{points_in, joined, point_byte, byte_at, bytes_for, packed_of, looked, stands_for, shared, codes_within}
 use Rattle.line.specs.Answer.{odd_points, packable, pack_answer}
+use Rattle.std.specs.Prelude.{Ok, Err}
+use Rattle.refusal.specs.declared.Refusal.TheVariants.{CodeTooHigh, OddCount, Outside, WrongLineOrOutput}
 use Rattle.scanline_laws.proofs.Groups.{code_inside}
 
 -- what stands for an element is looked at, and stands no later
@@ -117,7 +118,7 @@ module _ (l : Layout) (cs ds : List ℕ) (long : length cs ≡ length ds) (agree
   pub answered_alike : (bytes : ℕ) → pack_answer l cs bytes ≡ pack_answer l ds bytes
   unfolding pack_answer
   answered_alike bytes =
-      ap₂ (λ (n : ℕ) (xs : List ℕ). cond (not (valid_layout l)) (Refused 9) (cond (odd_points l n) (Refused 16) (cond (not (packable l n bytes)) (Refused 13) (cond (not (codes_within l.depth xs)) (Refused 14) (Points (points_in l bytes))))))
+      ap₂ (λ (n : ℕ) (xs : List ℕ). cond (not (valid_layout l)) (Err Outside) (cond (odd_points l n) (Err OddCount) (cond (not (packable l n bytes)) (Err WrongLineOrOutput) (cond (not (codes_within l.depth xs)) (Err CodeTooHigh) (Ok (points_in l bytes))))))
       long (shared_alike l 0 cs ds long agree)
 
 -- a line and what it is as shared differ only there

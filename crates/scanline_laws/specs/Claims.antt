@@ -1,12 +1,11 @@
 -- What is claimed of lines, of the definitions that the contracts of `unpack_line`, `pack_line` and `encode_line` cite. proofs/Claims.antt proves each. Assumes nothing.
-use Rattle.std.specs.Prelude.{ℕ, ◌+◌, ◌-◌, ◌*◌, ◌/◌, ◌%◌, ◌≤◌, ◌<◌, Bool, true, false, ◌&&◌, ◌||◌, ◌≡◌, List, [], eqb, Float, length, get_or}
+use Rattle.std.specs.Prelude.{ℕ, ◌+◌, ◌-◌, ◌*◌, ◌/◌, ◌%◌, ◌≤◌, ◌<◌, Bool, true, false, ◌&&◌, ◌||◌, ◌≡◌, List, [], eqb, Float, length, get_or, Ok, Err}
 use Rattle.layout.specs.declared.Layout.{Layout}
 use Rattle.layout.specs.Layout.{grouped, whole_groups, valid_groups, valid_layout}
-use Rattle.refusal.specs.Refusal.{wrong_line_or_output, odd_count}
-use Rattle.line.specs.declared.LineAnswer.TheVariants.{Points, Refused}
 use Rattle.line.specs.Line.{code_at, points_in, codes_of, byte_at, packed_of, looked, shared, PackedLine, CodeLine}
 use Rattle.line.specs.Answer.{most_points, odd_points, unpack_answer, pack_answer}
 use Rattle.line_values.specs.Encode.{quantized_of}
+use Rattle.refusal.specs.declared.Refusal.TheVariants.{OddCount, WrongLineOrOutput}
 use Rattle.scanline_laws.specs.Cleared.{cleared}
 
 -- packing what was unpacked clears the unused bits and changes nothing else
@@ -52,7 +51,7 @@ WritesGroups =
 
 -- the count is two points a group, and 2,048 groups are a line of the most points
 abbrev pub CountsTwoAGroup : Type 0
-CountsTwoAGroup = (l : Layout) (g : ℕ) → valid_groups l ≡ true → g ≤ 2048 → unpack_answer l (4 * g) (6 * g) ≡ Points (2 * g)
+CountsTwoAGroup = (l : Layout) (g : ℕ) → valid_groups l ≡ true → g ≤ 2048 → unpack_answer l (4 * g) (6 * g) ≡ Ok (2 * g)
 
 -- row 16 of lines to pack or encode: an odd count of whole points, of groups
 abbrev pub OddInNumbers : Type 0
@@ -60,21 +59,21 @@ OddInNumbers = (l : Layout) (size : ℕ) → odd_points l size ≡ eqb (size % 3
 
 -- which is refused so, also one of more than 4,096 (4,097)
 abbrev pub RefusesOddCounts : Type 0
-RefusesOddCounts = (l : Layout) (g bytes : ℕ) (cs : List ℕ) → valid_groups l ≡ true → length cs ≡ 3 * (2 * g + 1) → pack_answer l cs bytes ≡ Refused odd_count
+RefusesOddCounts = (l : Layout) (g bytes : ℕ) (cs : List ℕ) → valid_groups l ≡ true → length cs ≡ 3 * (2 * g + 1) → pack_answer l cs bytes ≡ Err OddCount
 
 -- and one of more than 4,096 points that is not odd (4,098 of groups) by 13; so are packed bytes of more, or that are not of whole groups, unpacked or decoded
 abbrev pub RefusesTooMany : Type 0
-RefusesTooMany = (l : Layout) (n bytes : ℕ) (cs : List ℕ) → valid_layout l ≡ true → whole_groups l n ≡ true → most_points < n → length cs ≡ 3 * n → pack_answer l cs bytes ≡ Refused wrong_line_or_output
+RefusesTooMany = (l : Layout) (n bytes : ℕ) (cs : List ℕ) → valid_layout l ≡ true → whole_groups l n ≡ true → most_points < n → length cs ≡ 3 * n → pack_answer l cs bytes ≡ Err WrongLineOrOutput
 
 abbrev pub RefusesTooManyPacked : Type 0
-RefusesTooManyPacked = (l : Layout) (bytes codes : ℕ) → valid_layout l ≡ true → most_points < points_in l bytes → unpack_answer l bytes codes ≡ Refused wrong_line_or_output
+RefusesTooManyPacked = (l : Layout) (bytes codes : ℕ) → valid_layout l ≡ true → most_points < points_in l bytes → unpack_answer l bytes codes ≡ Err WrongLineOrOutput
 
 abbrev pub RefusesPartsOfGroups : Type 0
-RefusesPartsOfGroups = (l : Layout) (bytes codes : ℕ) → valid_groups l ≡ true → eqb (bytes % 4) 0 ≡ false → unpack_answer l bytes codes ≡ Refused wrong_line_or_output
+RefusesPartsOfGroups = (l : Layout) (bytes codes : ℕ) → valid_groups l ≡ true → eqb (bytes % 4) 0 ≡ false → unpack_answer l bytes codes ≡ Err WrongLineOrOutput
 
 -- as is a line that is not of whole points
 abbrev pub RefusesPartsOfPoints : Type 0
-RefusesPartsOfPoints = (l : Layout) (bytes : ℕ) (cs : List ℕ) → valid_layout l ≡ true → eqb (length cs % 3) 0 ≡ false → pack_answer l cs bytes ≡ Refused wrong_line_or_output
+RefusesPartsOfPoints = (l : Layout) (bytes : ℕ) (cs : List ℕ) → valid_layout l ≡ true → eqb (length cs % 3) 0 ≡ false → pack_answer l cs bytes ≡ Err WrongLineOrOutput
 
 -- each of the two is of the other's kind, with as many points
 abbrev pub UnpacksToCodes : Type 0
@@ -85,10 +84,10 @@ PacksToBytes = (l : Layout) (n : ℕ) (cs : List ℕ) → CodeLine l n cs → Pa
 
 -- and so it is accepted, of up to 4,096 points, into an output as long as the line that it came from
 abbrev pub AcceptsWhatWasUnpacked : Type 0
-AcceptsWhatWasUnpacked = (l : Layout) (n : ℕ) (s : List ℕ) → PackedLine l n s → n ≤ most_points → pack_answer l (codes_of l s) (length s) ≡ Points n
+AcceptsWhatWasUnpacked = (l : Layout) (n : ℕ) (s : List ℕ) → PackedLine l n s → n ≤ most_points → pack_answer l (codes_of l s) (length s) ≡ Ok n
 
 abbrev pub AcceptsWhatWasPacked : Type 0
-AcceptsWhatWasPacked = (l : Layout) (n : ℕ) (cs : List ℕ) → CodeLine l n cs → n ≤ most_points → unpack_answer l (length (packed_of l cs)) (length cs) ≡ Points n
+AcceptsWhatWasPacked = (l : Layout) (n : ℕ) (cs : List ℕ) → CodeLine l n cs → n ≤ most_points → unpack_answer l (length (packed_of l cs)) (length cs) ≡ Ok n
 
 -- whatever the codes within the depth, the unused bits of a packed line are zero
 abbrev pub PacksUnusedBitsAsZero : Type 0
@@ -100,4 +99,4 @@ EncodesToCodes = (l : Layout) (n : ℕ) (vs : List Float) → valid_layout l ≡
 
 -- an empty line counts 0
 abbrev pub CountsEmptyLines : Type 0
-CountsEmptyLines = (l : Layout) → valid_layout l ≡ true → (unpack_answer l 0 0 ≡ Points 0) × (pack_answer l [] 0 ≡ Points 0)
+CountsEmptyLines = (l : Layout) → valid_layout l ≡ true → (unpack_answer l 0 0 ≡ Ok 0) × (pack_answer l [] 0 ≡ Ok 0)

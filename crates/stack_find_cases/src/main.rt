@@ -8,24 +8,21 @@ ghost use Rattle.card_finder.specs.Number.{refusal_of};
 
 use card_edition::edition;
 use card_finder::find_card;
-use card_reader::{CardReading, read};
+use card_reader::read;
 use stack::find;
 use std::io;
 use std::io::{Print, Read};
 
 // What was printed, or not: the program goes on where standard output can't be written.
 fn printed(outcome: io::Result<()>) {
-    match outcome {
-        Ok(()) => (),
-        Err(_) => (),
-    }
+    outcome.unwrap_or(())
 }
 
 // The size that the newest edition shows of a part of the stack.
 fn print_part(rt: &impl Print, card: &[u8]) {
     match read(card, edition::NEWEST) {
-        CardReading::Shown(facts) => printed(print!(rt; " {}x{}", facts.width, facts.height)),
-        CardReading::Refused(_) => printed(print!(rt; " none")),
+        Ok(facts) => printed(print!(rt; " {}x{}", facts.width, facts.height)),
+        Err(_) => printed(print!(rt; " none")),
     }
 }
 
@@ -42,8 +39,10 @@ fn print_found(rt: &impl Print, card: &[u8], number: u8) -> u8
 fn show_found(rt: &impl Print, stack: &[u8], edition: u8, item: u64) -> u8
     ensures { result ≡ refusal_of (located stack.now edition item) }
 {
-    let found = find_card(stack, edition, item);
-    print_found(rt, found.card, found.number)
+    match find_card(stack, edition, item) {
+        Ok(card) => print_found(rt, card, 0),
+        Err(refusal) => print_found(rt, b"", refusal.number()),
+    }
 }
 
 // One line: the edition, the item, the part that `find` gives, and the number and the part that `find_card` gives.
@@ -54,27 +53,28 @@ fn show(rt: &impl Print, stack: &[u8], edition: u8, item: u64) {
 }
 
 fn show_all(rt: &impl Print, stack: &[u8]) {
-    show(rt, stack, 2, 203001);
-    show(rt, stack, 1, 203001);
-    show(rt, stack, 2, 305551);
-    show(rt, stack, 1, 305551);
-    show(rt, stack, 2, 412008);
-    show(rt, stack, 2, 0);
-    show(rt, stack, 3, 117);
-    show(rt, stack, 2, 117);
-    show(rt, stack, 4, 118);
-    show(rt, stack, 3, 118);
-    show(rt, stack, 5, 203001);
+    for (edition, item) in [
+        (2, 203001),
+        (1, 203001),
+        (2, 305551),
+        (1, 305551),
+        (2, 412008),
+        (2, 0),
+        (3, 117),
+        (2, 117),
+        (4, 118),
+        (3, 118),
+        (5, 203001),
+    ] {
+        show(rt, stack, edition, item);
+    }
 }
 
 // Reads once, and answers how many bytes came to the front of `rest`: none at the input's end, or where reading fails.
 fn read_some(input: &mut impl Read, rest: &mut [u8]) -> usize
     ensures { result ≤ length rest.new }
 {
-    match input.read(rest) {
-        Ok(got) => got,
-        Err(_) => 0,
-    }
+    input.read(rest).unwrap_or(0)
 }
 
 // Fills the buffer from an input, as far as it goes, and answers how many bytes came.

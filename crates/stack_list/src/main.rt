@@ -4,7 +4,8 @@
 fn main(rt: HostRuntime) {
     let mut buffer = [0u8; listing_program::MOST_READ];
     let mut text = [0u8; listing_program::LONGEST];
-    listing_program::run(
+    // What went wrong has been told.
+    let _ = listing_program::run(
         &mut rt.stdin(),
         &mut rt.stdout(),
         &mut rt.stderr(),

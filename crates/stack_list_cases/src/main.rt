@@ -2,25 +2,19 @@
 // gate runs it on the stacks in data/.
 #![tactic(auto)]
 
+use std::env;
 use std::fs::File;
-use std::{env, io};
 
-// What was printed, or not: the program goes on where that can't be.
-fn printed(outcome: io::Result<()>) {
-    match outcome {
-        Ok(()) => (),
-        Err(_) => (),
-    }
-}
-
-// Lists the stack of one file under its name, or says why the file can't be opened.
+// Lists the stack of one file under its name, or says why the file can't be opened. The program goes on where that can't be
+// printed.
 fn list_file(rt: &HostRuntime, name: &str) {
-    printed(println!(rt; "{name}"));
+    let _ = println!(rt; "{name}");
     match File::open(rt, name) {
         Ok(mut file) => {
             let mut buffer = [0u8; listing_program::MOST_READ];
             let mut text = [0u8; listing_program::LONGEST];
-            listing_program::run(
+            // What went wrong has been told.
+            let _ = listing_program::run(
                 &mut file,
                 &mut rt.stdout(),
                 &mut rt.stderr(),
@@ -28,7 +22,9 @@ fn list_file(rt: &HostRuntime, name: &str) {
                 &mut text,
             );
         }
-        Err(error) => printed(eprintln!(rt; "{name}: {error}")),
+        Err(error) => {
+            let _ = eprintln!(rt; "{name}: {error}");
+        }
     }
 }
 
@@ -39,6 +35,8 @@ fn main(rt: HostRuntime) {
                 list_file(&rt, &name);
             }
         }
-        Err(error) => printed(eprintln!(rt; "a file's name: {error}")),
+        Err(error) => {
+            let _ = eprintln!(rt; "a file's name: {error}");
+        }
     }
 }

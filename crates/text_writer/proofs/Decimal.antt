@@ -10,8 +10,9 @@ use lib.Dec.{ltb}
 use lib.ListN.{length, length-append}
 use Rattle.lists.proofs.Tests.{pass, stop}
 use Rattle.text_writer.specs.Decimal.{digit, digits, decimal}
-use Rattle.text_writer.specs.Put.{Put}
-use Rattle.text_writer.proofs.Puts.{put_join, put_as}
+use Rattle.text_writer.specs.declared.TextWriter.{TextWriter}
+use Rattle.text_writer.specs.Put.{Wrote}
+use Rattle.text_writer.proofs.Puts.{wrote_join, wrote_as}
 
 pub one : (k n : ℕ) → ltb n 10 ≡ true → digits (suc k) n ≡ digit n ∷ []
 unfolding digits
@@ -72,8 +73,8 @@ length_more n l h = ap length (sym (decimal_more n l h)) ∙ length-append (deci
 
 -- ---- stored digit by digit
 
-pub number-one : (n : ℕ) {at next : ℕ} {xs ys : List ℕ} → n < 10 → Put (digit (n % 10) ∷ []) at xs ys next → Put (decimal n) at xs ys next
-number-one n h a = put_as (decimal-one n h) a
+pub number-one : (n : ℕ) {a b : TextWriter} → n < 10 → Wrote (digit (n % 10) ∷ []) a b → Wrote (decimal n) a b
+number-one n h w = wrote_as (decimal-one n h) w
 
-pub number_more : (n : ℕ) {at m next : ℕ} {xs ys zs : List ℕ} → 10 ≤ n → n < 10 ^ 20 → Put (decimal (n / 10)) at xs ys m → Put (digit (n % 10) ∷ []) m ys zs next → Put (decimal n) at xs zs next
-number_more n l h a b = put_as (decimal_more n l h) (put_join a b)
+pub number_more : (n : ℕ) {a b c : TextWriter} → 10 ≤ n → n < 10 ^ 20 → Wrote (decimal (n / 10)) a b → Wrote (digit (n % 10) ∷ []) b c → Wrote (decimal n) a c
+number_more n l h v w = wrote_as (decimal_more n l h) (wrote_join v w)

@@ -1,5 +1,5 @@
 -- Pieces stored one after the other. Assumes nothing.
-use mathlib.Core.Path.{◌≡◌, refl, sym, ap, ◌∙◌, subst}
+use mathlib.Core.Path.{◌≡◌, refl, sym, ap, ap₂, ◌∙◌, subst}
 use mathlib.Core.List.{List, [], ◌∷◌, ◌++◌}
 use Prim.Native.Nat.{ℕ, ◌+◌, ◌-◌, ◌≤◌, ◌<◌, suc, min}
 use native.Mathlib.Omega.{arith, min_cases}
@@ -7,7 +7,8 @@ use borrow.Rule.Slice.PartMut.{put_mid}
 use lib.ListN.{length, take, drop, length-append, take-append-drop, drop_of_length-le}
 use lib.Seq.{sets, sets-eq, set_out, length-sets, length-take-le, take_at}
 use Rattle.lists.proofs.Copies.{sets_join, copied}
-use Rattle.text_writer.specs.Put.{Put}
+use Rattle.text_writer.specs.declared.TextWriter.{TextWriter}
+use Rattle.text_writer.specs.Put.{Put, Wrote}
 
 -- stores behind the end change nothing
 sets_past : (xs : List ℕ) (at : ℕ) (p : List ℕ) → length xs ≤ at → sets xs at p ≡ xs
@@ -34,6 +35,26 @@ module _ {p q xs ys zs : List ℕ} {at m next : ℕ} where
 -- a text by another name
 pub put_as : {p q xs ys : List ℕ} {at next : ℕ} → p ≡ q → Put p at xs ys next → Put q at xs ys next
 put_as {p} {q} {xs} {ys} {at} {next} e a = subst (λ (t : List ℕ). Put t at xs ys next) e a
+
+-- and the same of a writer
+module _ {p q : List ℕ} {w₀ w₁ : TextWriter} where
+  pub wrote_join : {w₂ : TextWriter} → Wrote p w₀ w₁ → Wrote q w₁ w₂ → Wrote (p ++ q) w₀ w₂
+  wrote_join a b = record { stored = put_join a.stored b.stored; lent = b.lent ∙ a.lent }
+
+  pub wrote_as : p ≡ q → Wrote p w₀ w₁ → Wrote q w₀ w₁
+  wrote_as e a = record { stored = put_as e a.stored; lent = a.lent }
+
+-- it is then within its output
+pub wrote_within : {p : List ℕ} {w₀ w₁ : TextWriter} → Wrote p w₀ w₁ → w₁.at ≤ length w₁.out.now
+wrote_within {p} {w₀} w = omega (arith, w.stored.ends, ap length w.stored.holds, length-sets w₀.out.now w₀.at p)
+
+-- what a writer that began at an output's front left there
+pub wrote_all : {p xs ys : List ℕ} {w₀ w₁ : TextWriter} → Wrote p w₀ w₁ → w₀.out.now ≡ xs → w₀.at ≡ 0 → ys ≡ w₁.out.now → Put p 0 xs ys w₁.at
+wrote_all {p} {xs} {ys} {w₀} {w₁} w same front after =
+    record {
+      holds = after ∙ w.stored.holds ∙ ap₂ (λ (zs : List ℕ) (k : ℕ). sets zs k p) same front;
+      ends = w.stored.ends ∙ ap₂ (λ (zs : List ℕ) (k : ℕ). min (k + length p) (length zs)) same front;
+    }
 
 -- ---- a piece, as far as the output goes
 

@@ -1,48 +1,64 @@
 // Text stored in an output: pieces one after the other, and numbers as decimal digits.
 #![tactic(auto)]
 
-ghost use Rattle.std.specs.Prelude.{◌≡◌, [], ◌∷◌, length, ◌+◌, ◌%◌, min};
+ghost use Rattle.std.specs.Prelude.{◌≡◌, [], ◌∷◌, length, ◌+◌, ◌%◌};
 ghost use Rattle.text_writer.specs.Decimal.{digit, decimal};
-ghost use Rattle.text_writer.specs.Put.{Put};
+ghost use Rattle.text_writer.specs.Put.{Wrote};
 
-// Where a piece of so many bytes from index `at` on ends, in an output of so many bytes.
-fn end_of(at: usize, piece: usize, out: usize) -> usize
-    ensures { result ≡ min (at + piece) out }
-{
-    if at < out {
-        if piece < out - at {
-            return at + piece;
+// An output, and the index at which the next piece goes into it.
+#[derive(Drop)]
+pub struct TextWriter<'a> {
+    pub out: &'a mut [u8],
+    pub at: usize,
+}
+
+impl<'a> TextWriter<'a> {
+    // Begins at the output's front.
+    pub fn new(out: &'a mut [u8]) -> TextWriter<'a>
+        ensures lent { result.out.ghost_name ≡ out.entry.ghost_name }
+        ensures same { result.out.now ≡ out.old }
+        ensures front { result.at ≡ 0 }
+    {
+        TextWriter { out, at: 0 }
+    }
+
+    // Stores a piece, and goes on behind it. What would lie behind the output's end is left out, and the next piece then goes to
+    // the end.
+    pub fn put(&mut self, piece: &[u8])
+        ensures { Wrote piece.now self.old self.new }
+    {
+        let at = self.at;
+        let end = at.saturating_add(piece.len()).min(self.out.len());
+        if at < end {
+            let length = end - at;
+            self.out[at..end].copy_from_slice(&piece[..length]);
         }
+        self.at = end;
     }
-    out
-}
 
-// Stores a piece from index `at` on, and answers where the next goes. What would lie behind the output's end is left out,
-// and the next then goes to the end.
-pub fn put(piece: &[u8], at: usize, out: &mut [u8]) -> usize
-    ensures { Put piece.now at out.old out.new result }
-{
-    let end = end_of(at, piece.len(), out.len());
-    if end <= at {
-        return end;
+    // Stores one byte, as a piece.
+    pub fn put_byte(&mut self, byte: u8)
+        ensures { Wrote (byte ∷ []) self.old self.new }
+    {
+        self.put(&[byte]);
     }
-    let length = end - at;
-    out[at..end].copy_from_slice(&piece[..length]);
-    end
-}
 
-// Stores one byte, as a piece.
-pub fn put_byte(byte: u8, at: usize, out: &mut [u8]) -> usize
-    ensures { Put (byte ∷ []) at out.old out.new result }
-{
-    put(&[byte], at, out)
-}
+    // Stores the last digit of a number.
+    fn put_digit(&mut self, n: u64)
+        ensures { Wrote (digit (n % 10) ∷ []) self.old self.new }
+    {
+        self.put_byte(b'0' + (n % 10) as u8);
+    }
 
-// Stores the last digit of a number.
-fn put_digit(n: u64, at: usize, out: &mut [u8]) -> usize
-    ensures { Put (digit (n % 10) ∷ []) at out.old out.new result }
-{
-    put_byte(b'0' + (n % 10) as u8, at, out)
+    // Stores all digits of a number, as a piece. It calls itself for all but the last digit, at most 20 deep.
+    pub fn put_number(&mut self, n: u64)
+        ensures { Wrote (decimal n) self.old self.new }
+    {
+        if 10 <= n {
+            self.put_number(n / 10);
+        }
+        self.put_digit(n);
+    }
 }
 
 // How many digits a number has. It calls itself for all but the last digit, at most 20 deep.
@@ -53,15 +69,4 @@ pub fn count(n: u64) -> usize
         return 1;
     }
     count(n / 10) + 1
-}
-
-// Stores all digits of a number, as a piece. It calls itself for all but the last digit, at most 20 deep.
-pub fn put_number(n: u64, at: usize, out: &mut [u8]) -> usize
-    ensures { Put (decimal n) at out.old out.new result }
-{
-    if n < 10 {
-        return put_digit(n, at, out);
-    }
-    let last = put_number(n / 10, at, out);
-    put_digit(n, last, out)
 }

@@ -6,10 +6,10 @@ ghost use Rattle.std.specs.Prelude.{◌≡◌, length};
 ghost use Rattle.line.specs.Answer.{unpack_answer, unpack_output};
 
 use layout::Layout;
-use line::LineAnswer;
+use refusal::Refusal;
 
 // Unpacks a line of points or groups to codes, three a point. Refused: 9, then 13.
-pub fn unpack_line(layout: Layout, packed: &[u8], codes: &mut [u16]) -> LineAnswer
+pub fn unpack_line(layout: Layout, packed: &[u8], codes: &mut [u16]) -> Result<usize, Refusal>
     ensures answer { result ≡ unpack_answer layout (length packed.now) (length codes.old) }
     ensures memory { codes.new ≡ unpack_output layout packed.now codes.old }
 {

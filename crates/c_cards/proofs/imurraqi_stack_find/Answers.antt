@@ -9,10 +9,10 @@ use Rattle.c_cards.proofs.imurraqi_stack_find.Goals as goal
 
 pub overflow_cast-result : goal.overflow_cast-result
 overflow_cast-result c =
-    let few : c.in-At.index < 2 ^ 16 = omega (arith, located-few _ _ _ c.in-At.index (sym c.locate.ensures ∙ c.in-At.is)) in
-    count_fits c.in-At.index few
+    let few : c.in-Ok.index < 2 ^ 16 = omega (arith, located-few _ _ _ c.in-Ok.index (sym c.locate.ensures ∙ c.in-Ok.is)) in
+    count_fits c.in-Ok.index few
 
-pub returns-in-At : goal.returns-in-At
-returns-in-At c =
-    let few : c.in-At.index < 2 ^ 16 = omega (arith, located-few _ _ _ c.in-At.index (sym c.locate.ensures ∙ c.in-At.is)) in
-    kept c.in-At.index few ∙ ap found_number (sym c.in-At.is ∙ c.locate.ensures)
+pub returns-in-Ok : goal.returns-in-Ok
+returns-in-Ok c =
+    let few : c.in-Ok.index < 2 ^ 16 = omega (arith, located-few _ _ _ c.in-Ok.index (sym c.locate.ensures ∙ c.in-Ok.is)) in
+    kept c.in-Ok.index few ∙ ap found_number (sym c.in-Ok.is ∙ c.locate.ensures)

@@ -8,18 +8,18 @@ use Rattle.c_fields.proofs.imurraqi_field_bytes.Goals as goal
 
 pub overflow_cast-first : goal.overflow_cast-first
 overflow_cast-first c =
-    let within : (c.in-Held.field.first ≤ 8) × (c.in-Held.field.count ≤ 8) = held_small _ _ _ (sym c.field_bytes.ensures ∙ c.in-Held.is) in
+    let within : (c.in-Ok.field.first ≤ 8) × (c.in-Ok.field.count ≤ 8) = held_small _ _ _ (sym c.field_bytes.ensures ∙ c.in-Ok.is) in
     omega (arith, within)
 
 pub overflow_cast-result : goal.overflow_cast-result
 overflow_cast-result c =
-    let within : (c.in-Held.field.first ≤ 8) × (c.in-Held.field.count ≤ 8) = held_small _ _ _ (sym c.field_bytes.ensures ∙ c.in-Held.is) in
+    let within : (c.in-Ok.field.first ≤ 8) × (c.in-Ok.field.count ≤ 8) = held_small _ _ _ (sym c.field_bytes.ensures ∙ c.in-Ok.is) in
     count_fits _ (omega (arith, within))
 
-pub returns-in-Held : goal.returns-in-Held
-returns-in-Held c =
-    let within : (c.in-Held.field.first ≤ 8) × (c.in-Held.field.count ≤ 8) = held_small _ _ _ (sym c.field_bytes.ensures ∙ c.in-Held.is) in
+pub returns-in-Ok : goal.returns-in-Ok
+returns-in-Ok c =
+    let within : (c.in-Ok.field.first ≤ 8) × (c.in-Ok.field.count ≤ 8) = held_small _ _ _ (sym c.field_bytes.ensures ∙ c.in-Ok.is) in
     record {
-      answer = rw (← c.layout_of.ensures, ← c.field_bytes.ensures, c.in-Held.is) (kept c.in-Held.field.count (omega (arith, within)));
-      memory = rw (← c.layout_of.ensures, ← c.field_bytes.ensures, c.in-Held.is) refl;
+      answer = rw (← c.layout_of.ensures, ← c.field_bytes.ensures, c.in-Ok.is) (kept c.in-Ok.field.count (omega (arith, within)));
+      memory = rw (← c.layout_of.ensures, ← c.field_bytes.ensures, c.in-Ok.is) refl;
     }

@@ -9,8 +9,8 @@ use Rattle.floats.specs.inner.Floor.{clamped_by}
 use Rattle.color_equations.specs.Conversion.{pick}
 use Rattle.color_equations.specs.Line.{Converter, converted_at, converted_of, converted_cuts}
 use Rattle.color_line.specs.declared.row.FloatRow.{FloatRow}
-use Rattle.color_line.specs.declared.row.FloatRows.{FloatRows}
-use Rattle.color_line.specs.declared.row.Triple.{Triple}
+use Rattle.parameters.specs.declared.channels.Channels.{Channels}
+use Rattle.line.specs.declared.turns.Joined.{Joined}
 
 -- a coefficient times a code
 abbrev pub times : Float → ℕ → Float
@@ -24,18 +24,18 @@ unfoldable pub row_code : FloatRow → ℕ → ℕ → ℕ → Clamped
 row_code r x y z = clamped_by r.ends (quotient_of r x y z)
 
 -- channel j of the point x, y, z by three rows
-unfoldable pub rows_code : FloatRows → Converter
-rows_code rows x y z j = pick j (row_code rows.first x y z) (row_code rows.second x y z) (row_code rows.third x y z)
+unfoldable pub rows_code : Channels FloatRow → Converter
+rows_code rows x y z j = pick j (row_code rows.channel0 x y z) (row_code rows.channel1 x y z) (row_code rows.channel2 x y z)
 
 -- the two lines are of one length, and of whole points
 abbrev pub alike : ℕ → ℕ → Bool
 alike size output = eqb (size % 3) 0 && eqb output size
 
 -- a second line afterwards, and how many of its codes were cut
-abbrev pub converted_by : FloatRows → List ℕ → List ℕ → List ℕ
+abbrev pub converted_by : Channels FloatRow → List ℕ → List ℕ → List ℕ
 converted_by rows cs before = new_or_kept (alike (length cs) (length before)) (converted_of (rows_code rows) cs) before
 
-abbrev pub cuts_by : FloatRows → List ℕ → ℕ → ℕ
+abbrev pub cuts_by : Channels FloatRow → List ℕ → ℕ → ℕ
 cuts_by rows cs output = cond (alike (length cs) output) (converted_cuts (rows_code rows) cs) 0
 
 -- ---- code k of a line that is converted by f, and whether it was cut
@@ -51,11 +51,11 @@ cut_at f cs k = (converted_at f cs k).cut
 abbrev pub number_of : (ℕ → ℕ) → ℕ
 number_of g = g 0 + 65536 * g 1 + 4294967296 * g 2
 
-abbrev pub point_by : (ℕ → Clamped) → Triple
+abbrev pub point_by : (ℕ → Clamped) → Joined
 point_by g = record { number = number_of (λ j. (g j).code); cuts = one_if (g 0).cut + one_if (g 1).cut + one_if (g 2).cut }
 
 -- point i of a line that is converted by f
-unfoldable pub point_of : Converter → List ℕ → ℕ → Triple
+unfoldable pub point_of : Converter → List ℕ → ℕ → Joined
 point_of f cs i = point_by (f (get_or cs (3 * i) 0) (get_or cs (3 * i + 1) 0) (get_or cs (3 * i + 2) 0))
 
 -- code j of a number

@@ -1,15 +1,14 @@
 -- The answer to a line of a conversion that the paper has, by the highest code. Only a private function cites it: the entries' contracts have `conversion_answer`. Assumes nothing.
-use Rattle.std.specs.Prelude.{ℕ, ◌/◌, not, cond, List, leb, length}
+use Rattle.std.specs.Prelude.{ℕ, ◌/◌, not, cond, List, leb, length, Result, Ok, Err}
 use Rattle.lists.specs.Lists.{every}
-use Rattle.refusal.specs.Refusal.{wrong_line_or_output, code_too_high}
-use Rattle.line.specs.declared.ClampedAnswer.{ClampedAnswer}
-use Rattle.line.specs.declared.ClampedAnswer.TheVariants.{Points, Refused}
 use Rattle.line.specs.Answer.{fitting}
+use Rattle.refusal.specs.declared.Refusal.TheVariants.{CodeTooHigh, WrongLineOrOutput}
+use Rattle.refusal.specs.declared.Refusal.{Refusal}
 use Rattle.color_equations.specs.Line.{Converter, converted_cuts}
 
 -- 13, then 14
-abbrev pub answer_up_to : Converter → ℕ → List ℕ → ℕ → ClampedAnswer
+abbrev pub answer_up_to : Converter → ℕ → List ℕ → ℕ → Result (ℕ × ℕ) Refusal
 answer_up_to f top cs output =
-    cond (not (fitting (length cs) 3 output 3)) (Refused wrong_line_or_output)
-    (cond (not (every (λ c. leb c top) cs)) (Refused code_too_high)
-    (Points (length cs / 3) (converted_cuts f cs)))
+    cond (not (fitting (length cs) 3 output 3)) (Err WrongLineOrOutput)
+    (cond (not (every (λ c. leb c top) cs)) (Err CodeTooHigh)
+    (Ok (length cs / 3, converted_cuts f cs)))

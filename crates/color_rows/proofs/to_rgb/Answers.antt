@@ -6,5 +6,5 @@ use Rattle.color_rows.proofs.to_rgb.Goals as goal
 
 pub rows-requires : goal.rows-requires
 rows-requires c = let a = c.args in
-    let e = numbers_told a.primaries a.depth a.range_in a.range_out (sym c.numbers_of.ensures ∙ c.in-Known.is) in
+    let e = numbers_told a.primaries a.depth a.range_in a.range_out (sym c.numbers_of.ensures ∙ c.in_ok-numbers.was) in
     subst SmallNumbers (sym e.1) (numbers_small a.primaries a.depth a.range_in a.range_out e.0)

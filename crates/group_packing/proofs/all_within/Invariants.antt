@@ -1,10 +1,7 @@
 -- `group_packing::all_within` meets its contract: all groups passed fit, and one that does not decides. Assumes nothing.
-use Prim.Native.Nat.{◌*◌, ◌-◌, ◌≤◌}
+use Prim.Native.Nat.{◌*◌}
 use Rattle.group_packing.proofs.Small.{Small}
 use Rattle.group_packing.proofs.all_within.Given as goal
 
 abbrev pub invariant-loop-i : goal.invariant-loop-i
-invariant-loop-i l = (l.i ≤ l.n) × Small l.codes (6 * l.i)
-
-abbrev pub decreases-loop-i : goal.decreases-loop-i
-decreases-loop-i l = l.n - l.i
+invariant-loop-i l = Small l.codes (6 * l.i)

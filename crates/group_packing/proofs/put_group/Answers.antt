@@ -5,18 +5,17 @@ use Rattle.group_packing.proofs.Bytes.{four_bytes}
 use Rattle.group_packing.proofs.Small.{small_if_within}
 use Rattle.group_packing.proofs.put_group.Goals as goal
 
-pub narrow-y0-requires : goal.narrow-y0-requires
-narrow-y0-requires c = small_if_within c.args.codes.now c.requires.codes_value (6 * c.args.i) (omega arith) (omega arith)
+pub overflow_cast-y0 : goal.overflow_cast-y0
+overflow_cast-y0 c = omega (arith, small_if_within c.args.codes.now c.requires.codes_value (6 * c.args.i) (omega arith) (omega arith))
 
-pub narrow-cb-requires : goal.narrow-cb-requires
-narrow-cb-requires c = small_if_within c.args.codes.now c.requires.codes_value (6 * c.args.i + 1) (omega arith) (omega arith)
+pub overflow_cast-cb : goal.overflow_cast-cb
+overflow_cast-cb c = omega (arith, small_if_within c.args.codes.now c.requires.codes_value (6 * c.args.i + 1) (omega arith) (omega arith))
 
-pub narrow-cr-requires : goal.narrow-cr-requires
-narrow-cr-requires c = small_if_within c.args.codes.now c.requires.codes_value (6 * c.args.i + 2) (omega arith) (omega arith)
+pub overflow_cast-cr : goal.overflow_cast-cr
+overflow_cast-cr c = omega (arith, small_if_within c.args.codes.now c.requires.codes_value (6 * c.args.i + 2) (omega arith) (omega arith))
 
-pub narrow-y1-requires : goal.narrow-y1-requires
-narrow-y1-requires c = small_if_within c.args.codes.now c.requires.codes_value (6 * c.args.i + 3) (omega arith) (omega arith)
+pub overflow_cast-y1 : goal.overflow_cast-y1
+overflow_cast-y1 c = omega (arith, small_if_within c.args.codes.now c.requires.codes_value (6 * c.args.i + 3) (omega arith) (omega arith))
 
 pub returns : goal.returns
-returns c = let a = c.args in
-    four_bytes a.codes.now a.out.now _ a.i _ _ _ _ c.narrow-y0.ensures c.narrow-cb.ensures c.narrow-cr.ensures c.narrow-y1.ensures c.put.ensures
+returns c = four_bytes c.args.codes.now c.args.out.now c.args.i

@@ -4,4 +4,4 @@ use Rattle.group_unpacking.proofs.put_group.Goals as goal
 
 pub returns : goal.returns
 returns c = let a = c.args in
-    six_codes a.packed.now a.codes.now _ _ a.i _ _ _ _ c.wide-y0.ensures c.wide-cb.ensures c.wide-cr.ensures c.wide-y1.ensures c.put_point.ensures c.put_point-2.ensures
+    six_codes a.packed.now a.codes.now a.i _ _ _ _ c.from-y0.ensures c.from-cb.ensures c.from-cr.ensures c.from-y1.ensures

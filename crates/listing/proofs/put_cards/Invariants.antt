@@ -1,13 +1,15 @@
--- `listing::put_cards` meets its contract: the invariant is what was stored so far. Assumes nothing.
-use Prim.Native.Nat.{◌≤◌, ◌-◌}
+-- `listing::put_cards` meets its contract: the invariant is what was stored so far, and what is left of the stack. Assumes nothing.
 use mathlib.Core.Path.{◌≡◌}
-use lib.ListN.{length}
+use Prim.Native.Nat.{◌*◌, ◌≤◌}
+use lib.ListN.{length, drop}
 use Rattle.listing.specs.List.{card_lines}
-use Rattle.text_writer.specs.Put.{Put}
+use Rattle.text_writer.specs.Put.{Wrote}
 use Rattle.listing.proofs.put_cards.Given as goal
 
-abbrev pub invariant-loop-i : goal.invariant-loop-i
-invariant-loop-i l = (l.i ≤ l.count) × (length l.out ≡ length l.initial.out) × Put (card_lines l.stack l.i) l.at l.initial.out l.out l.next
-
-abbrev pub decreases-loop-i : goal.decreases-loop-i
-decreases-loop-i l = l.count - l.i
+abbrev pub invariant-loop-card : goal.invariant-loop-card
+invariant-loop-card l = record {
+  size : l.card-iterator.size ≡ 32;
+  left : l.card-iterator.rest.now ≡ drop (32 * length l.yielded) l.stack;
+  so_far : 32 * length l.yielded ≤ length l.stack;
+  wrote : Wrote (card_lines l.stack (length l.yielded)) l.initial.text l.text;
+}

@@ -6,4 +6,4 @@ use Rattle.ppm_codes.proofs.within.Goals as goal
 pub returns-then-code_bytes-eq1 : goal.returns-then-code_bytes-eq1
 returns-then-code_bytes-eq1 c =
     let a = c.args in
-    record { answer = sym (bytes-within a.depth a.raster.now (sym c.code_bytes.ensures ∙ c.if-code_bytes-eq1.true) (λ i. (c.shared_slice_known-1.given i).fits)) }
+    record { answer = sym (bytes-within a.depth a.raster.now (sym c.code_bytes.ensures ∙ c.if-code_bytes-eq1.true) (λ i. (c.type_inv.raster i).fits)) }

@@ -4,4 +4,4 @@ use Rattle.ppm_header.proofs.put_sides.Goals as goal
 
 pub returns : goal.returns
 returns c = let a = c.args in
-    sides_put a.width a.height c.put_number-at_space.ensures c.put_byte-at_height.ensures c.put_number-at_newline.ensures c.put_byte.ensures
+    sides_put a.width a.height c.put_number.ensures c.put_byte.ensures c.put_number-2.ensures c.put_byte-2.ensures

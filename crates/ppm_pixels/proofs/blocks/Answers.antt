@@ -27,16 +27,14 @@ block-requires c =
     subst (λ (p : ℕ). Parts (pixels_of l) p c.args.wide) (sym c.requires.size_value.0) (subst (Parts (pixels_of l) l.bytes) (sym c.requires.size_value.2) (pixels_parts l c.requires.ready.valid)) in
     let each-small : (3 ≤ c.args.each) × (0 < 480 / c.args.each) × ((k : ℕ) → k ≤ 480 / c.args.each → (c.args.each * k ≤ 480) × (k ≤ 160)) = let l = c.args.layout in
     subst (λ (m : ℕ). (3 ≤ m) × (0 < 480 / m) × ((k : ℕ) → k ≤ 480 / m → (m * k ≤ 480) × (k ≤ 160))) (sym c.requires.size_value.1) ((unit_small l).0, (block_small l).0, (block_small l).1) in
-    let k-fits : (c.loop-i.i + c.if-left-most.k ≤ c.args.n) × (0 < c.if-left-most.k) × (c.if-left-most.k ≤ 480 / c.args.each) = let h = each-small.1 in
-    elim c.if-left-most.branch [
-      | goal.then-left-most w ↦ (omega arith, omega arith, omega arith)
-      | goal.else-left-most w ↦ (omega arith, omega arith, omega arith)
-    ] in
-    let small : (c.args.each * c.if-left-most.k ≤ 480) × (c.if-left-most.k ≤ 160) = each-small.2 c.if-left-most.k k-fits.2 in
+    let k-fits : (c.loop-i.i + c.min-k.result ≤ c.args.n) × (0 < c.min-k.result) × (c.min-k.result ≤ 480 / c.args.each) = let h = each-small.1 in
+    let m = c.min-k.ensures in
+    (omega (arith, m), omega (arith, m), omega (arith, m)) in
+    let small : (c.args.each * c.min-k.result ≤ 480) × (c.min-k.result ≤ 160) = each-small.2 c.min-k.result k-fits.2 in
     let now-long : length c.loop-i.out ≡ c.args.wide * c.args.n = made_long parts c.args.packed.now c.args.out.now c.args.n in-long out-long c.loop-i.invariant.0 c.loop-i.invariant.1 ∙ out-long in
-    let lent-codes : (xs : List ℕ) → length xs ≡ 480 → length (take (c.args.each * c.if-left-most.k) xs) ≡ unit_codes c.args.layout * c.if-left-most.k = λ xs e. length-take-le _ xs (omega (arith, small.0, e)) ∙ ap (λ (x : ℕ). x * c.if-left-most.k) c.requires.size_value.1 in
+    let lent-codes : (xs : List ℕ) → length xs ≡ 480 → length (take (c.args.each * c.min-k.result) xs) ≡ unit_codes c.args.layout * c.min-k.result = λ xs e. length-take-le _ xs (omega (arith, small.0, e)) ∙ ap (λ (x : ℕ). x * c.min-k.result) c.requires.size_value.1 in
     let i = c.loop-i.i in
-    let k = c.if-left-most.k in
+    let k = c.min-k.result in
     record {
       ready = (c.requires.ready, small.1);
       packed_len = (
@@ -54,14 +52,12 @@ loop-i-preserved c =
     subst (λ (p : ℕ). Parts (pixels_of l) p c.args.wide) (sym c.requires.size_value.0) (subst (Parts (pixels_of l) l.bytes) (sym c.requires.size_value.2) (pixels_parts l c.requires.ready.valid)) in
     let each-small : (3 ≤ c.args.each) × (0 < 480 / c.args.each) × ((k : ℕ) → k ≤ 480 / c.args.each → (c.args.each * k ≤ 480) × (k ≤ 160)) = let l = c.args.layout in
     subst (λ (m : ℕ). (3 ≤ m) × (0 < 480 / m) × ((k : ℕ) → k ≤ 480 / m → (m * k ≤ 480) × (k ≤ 160))) (sym c.requires.size_value.1) ((unit_small l).0, (block_small l).0, (block_small l).1) in
-    let k-fits : (c.loop-i.i + c.if-left-most.k ≤ c.args.n) × (0 < c.if-left-most.k) × (c.if-left-most.k ≤ 480 / c.args.each) = let h = each-small.1 in
-    elim c.if-left-most.branch [
-      | goal.then-left-most w ↦ (omega arith, omega arith, omega arith)
-      | goal.else-left-most w ↦ (omega arith, omega arith, omega arith)
-    ] in
-    let m = c.args.each * c.if-left-most.k in (
+    let k-fits : (c.loop-i.i + c.min-k.result ≤ c.args.n) × (0 < c.min-k.result) × (c.min-k.result ≤ 480 / c.args.each) = let h = each-small.1 in
+    let m = c.min-k.ensures in
+    (omega (arith, m), omega (arith, m), omega (arith, m)) in
+    let m = c.args.each * c.min-k.result in (
       k-fits.0,
-      made_more parts c.args.packed.now c.args.out.now c.args.n in-long out-long c.loop-i.i c.if-left-most.k k-fits.0 c.block.ensures c.loop-i.invariant.1,
+      made_more parts c.args.packed.now c.args.out.now c.args.n in-long out-long c.loop-i.i c.min-k.result k-fits.0 c.block.ensures c.loop-i.invariant.1,
       length_front c.loop-i.codes c.block.new.codes m c.block.auto.codes ∙ c.loop-i.invariant.2,
       length_front c.loop-i.full c.block.new.full m c.block.auto.full ∙ c.loop-i.invariant.3,
     )

@@ -17,7 +17,7 @@ returns-then-not-known c = sym (located_7 _ _ _ (sym (ap not c.whole-complete.en
 
 pub loop-i-preserved : goal.loop-i-preserved
 loop-i-preserved c = let a = c.args in
-    (omega arith, c.loop-i.invariant.1 ∙ first_miss _ _ _ (omega arith) (seen a.stack.now a.edition a.item c.loop-i.i c.shows_item.ensures ∙ c.if-shows_item.false))
+    (omega arith, c.loop-i.invariant.1 ∙ first_miss _ _ _ (omega arith) (seen a.stack.now a.edition a.item c.loop-i.i c.card_at.ensures.answer c.shows_item.ensures ∙ c.if-shows_item.false))
 
 pub returns-then-i-cards : goal.returns-then-i-cards
 returns-then-i-cards c =
@@ -30,4 +30,4 @@ returns-then-shows_item c =
     let found : let a = c.args in
     located a.stack.now a.edition a.item ≡ first (has_item a.stack.now a.edition a.item) 0 (cards_in (length a.stack.now)) = located-first _ _ _ (sym (ap not c.whole-complete.ensures) ∙ (ap not c.if-not-complete.false)) (sym (ap not c.known-known.ensures) ∙ (ap not c.if-not-known.false)) in
     let a = c.args in
-    sym (found ∙ c.loop-i.invariant.1 ∙ first_hit _ _ _ (omega arith) (seen a.stack.now a.edition a.item c.loop-i.i c.shows_item.ensures ∙ c.if-shows_item.true))
+    sym (found ∙ c.loop-i.invariant.1 ∙ first_hit _ _ _ (omega arith) (seen a.stack.now a.edition a.item c.loop-i.i c.card_at.ensures.answer c.shows_item.ensures ∙ c.if-shows_item.true))

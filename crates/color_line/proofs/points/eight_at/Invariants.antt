@@ -1,5 +1,5 @@
 -- `color_line::eight_at` meets its contract: each turn fills in one number and adds its cuts. Assumes nothing.
-use Prim.Native.Nat.{◌+◌, ◌*◌, ◌-◌, ◌≤◌}
+use Prim.Native.Nat.{◌+◌, ◌*◌}
 use mathlib.Core.Path.{◌≡◌}
 use lib.ListN.{length}
 use Rattle.lists.specs.Lists.{count}
@@ -8,7 +8,4 @@ use Rattle.color_line.specs.inner.Rows.{rows_code, cut_at, point_of}
 use Rattle.color_line.proofs.points.eight_at.Given as goal
 
 abbrev pub invariant-loop-j : goal.invariant-loop-j
-invariant-loop-j l = (l.j ≤ 8) × (length l.initial.numbers ≡ 8) × Filled l.initial.numbers (λ k. (point_of (rows_code l.rows) l.codes (l.i + k)).number) l.j l.numbers × (count (3 * l.i) (cut_at (rows_code l.rows) l.codes) + l.cuts ≡ count (3 * (l.i + l.j)) (cut_at (rows_code l.rows) l.codes))
-
-abbrev pub decreases-loop-j : goal.decreases-loop-j
-decreases-loop-j l = 8 - l.j
+invariant-loop-j l = (length l.initial.numbers ≡ 8) × Filled l.initial.numbers (λ k. (point_of (rows_code l.rows) l.codes (l.i + k)).number) l.j l.numbers × (count (3 * l.i) (cut_at (rows_code l.rows) l.codes) + l.cuts ≡ count (3 * (l.i + l.j)) (cut_at (rows_code l.rows) l.codes))

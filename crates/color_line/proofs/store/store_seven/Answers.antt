@@ -1,5 +1,4 @@
 -- `color_line::store_seven` meets its contract: each turn stores one number. Assumes nothing.
-use native.Mathlib.Omega.{arith}
 use mathlib.Core.Path.{refl}
 use Rattle.color_line.specs.inner.Rows.{stored_of}
 use Rattle.color_line.proofs.Stores.{stored_more}
@@ -7,8 +6,8 @@ use Rattle.color_line.proofs.store.store_seven.Goals as goal
 
 pub loop-j-init : goal.loop-j-init
 unfolding stored_of
-loop-j-init c = (omega arith, refl)
+loop-j-init c = refl
 
 pub loop-j-preserved : goal.loop-j-preserved
 loop-j-preserved c = let l = c.loop-j in
-    (omega arith, stored_more c.args.v c.args.i c.args.out.now l.j l.out _ l.invariant.1 c.store4.ensures)
+    stored_more c.args.v c.args.i c.args.out.now l.j l.out _ l.invariant c.store4.ensures

@@ -4,4 +4,4 @@ use Rattle.color_rows.proofs.linear.floats.Goals as goal
 
 pub returns : goal.returns
 unfolding floats_of
-returns c = rw (c.difference.ensures, c.difference-2.ensures, c.difference-3.ensures, c.difference-4.ensures, c.floats.ensures)
+returns c = rw (c.difference.ensures, c.difference-2.ensures, c.difference-3.ensures, c.difference-4.ensures, c.from.ensures)

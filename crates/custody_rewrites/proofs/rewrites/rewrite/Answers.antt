@@ -8,14 +8,14 @@ use Rattle.custody_rewrites.proofs.rewrites.rewrite.Goals as goal
 pub copy_from_slice-requires : goal.copy_from_slice-requires
 copy_from_slice-requires c =
     let a = c.args in
-    omega (arith, c.rewrite-answer.auto.out, rewrite_done a.card.now a.edition _ (sym c.rewrite-answer.ensures.answer ∙ c.in-Done.is), c.requires)
+    omega (arith, c.rewrite.auto.out, rewrite_done a.card.now a.edition _ (sym c.rewrite.ensures.answer ∙ c.in-Ok.is), c.requires)
 
-pub returns-in-Refused : goal.returns-in-Refused
-returns-in-Refused c =
+pub returns-in-Err : goal.returns-in-Err
+returns-in-Err c =
     let a = c.args in
-    left_refused a.card.now a.edition a.out.now _ _ (sym c.rewrite-answer.ensures.answer ∙ c.in-Refused.is) c.rewrite-answer.ensures.memory
+    left_refused a.card.now a.edition a.out.now _ _ c.number.ensures (sym c.rewrite.ensures.answer ∙ c.in-Err.is) c.rewrite.ensures.memory
 
-pub returns-in-Done : goal.returns-in-Done
-returns-in-Done c =
+pub returns-in-Ok : goal.returns-in-Ok
+returns-in-Ok c =
     let a = c.args in
-    left_done a.card.now a.edition a.out.now _ _ (sym c.rewrite-answer.ensures.answer ∙ c.in-Done.is) c.rewrite-answer.ensures.memory c.copy_from_slice.ensures.after
+    left_done a.card.now a.edition a.out.now _ _ (sym c.rewrite.ensures.answer ∙ c.in-Ok.is) c.rewrite.ensures.memory c.copy_from_slice.ensures.after

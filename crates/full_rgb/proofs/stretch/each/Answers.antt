@@ -16,4 +16,4 @@ returns c =
     let n = length a.codes.now in
     eqb-true (length a.out.now) n (and_right (eqb (n % 3) 0) (eqb (length a.out.now) n) (c.if-not-n-out.false)) in
     let a = c.args in
-    each_all a.stretch a.codes.now long (omega arith) c.loop-i.invariant.1 ∙ sym (stop {t = alike (length a.codes.now) (length a.out.now)} _ (c.if-not-n-out.false))
+    each_all a.stretch a.codes.now long (omega arith) c.loop-i.invariant ∙ sym (stop {t = alike (length a.codes.now) (length a.out.now)} _ (c.if-not-n-out.false))

@@ -12,12 +12,10 @@ use Rattle.group_encoding.proofs.numbers.all_numbers.Goals as goal
 
 pub loop-i-preserved : goal.loop-i-preserved
 loop-i-preserved c = let l = c.loop-i in
-    let vs = c.args.values.now in (
-      omega arith,
-      l.invariant.1 ∙ every_group nan vs (λ v. not (is_nan v)) l.ok l.i (omega arith)
-          ∙ ap (λ (b : Bool). l.ok && b && every (λ v. not (is_nan v)) (drop (6 * (l.i + 1)) (group_shared nan vs))) (sym c.group_numbers-ok.ensures),
-    )
+    let vs = c.args.values.now in
+    l.invariant ∙ every_group nan vs (λ v. not (is_nan v)) l.ok l.i (omega arith)
+    ∙ ap (λ (b : Bool). l.ok && b && every (λ v. not (is_nan v)) (drop (6 * (l.i + 1)) (group_shared nan vs))) (sym c.group_numbers-ok.ensures)
 
 pub returns : goal.returns
 returns c = let l = c.loop-i in
-    sym (l.invariant.1 ∙ every_group_end nan c.args.values.now (λ v. not (is_nan v)) l.ok l.i (omega arith))
+    sym (l.invariant ∙ every_group_end nan c.args.values.now (λ v. not (is_nan v)) l.ok l.i (omega arith))

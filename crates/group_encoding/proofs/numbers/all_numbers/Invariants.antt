@@ -1,7 +1,7 @@
 -- `group_encoding::numbers::all_numbers` meets its contract: what was passed, and what is left, decide together. Assumes nothing.
 use mathlib.Core.Path.{◌≡◌}
 use mathlib.Core.Bool.{not, ◌&&◌}
-use Prim.Native.Nat.{◌-◌, ◌*◌, ◌≤◌}
+use Prim.Native.Nat.{◌*◌}
 use lib.Ieee.{nan, is_nan}
 use lib.ListN.{drop}
 use Rattle.lists.specs.Lists.{every}
@@ -10,7 +10,4 @@ use Rattle.line_values.specs.Encode.{all_numbers}
 use Rattle.group_encoding.proofs.numbers.all_numbers.Given as goal
 
 abbrev pub invariant-loop-i : goal.invariant-loop-i
-invariant-loop-i l = (l.i ≤ l.n) × (all_numbers (group_shared nan l.values) ≡ l.ok && every (λ v. not (is_nan v)) (drop (6 * l.i) (group_shared nan l.values)))
-
-abbrev pub decreases-loop-i : goal.decreases-loop-i
-decreases-loop-i l = l.n - l.i
+invariant-loop-i l = all_numbers (group_shared nan l.values) ≡ l.ok && every (λ v. not (is_nan v)) (drop (6 * l.i) (group_shared nan l.values))

@@ -4,4 +4,4 @@ use Rattle.listing.proofs.field.put_item.Goals as goal
 
 pub returns : goal.returns
 returns c = let a = c.args in
-    item_put a.item a.access c.put_number-at1.ensures c.put_byte-at2.ensures c.put_access-at3.ensures c.put_byte.ensures
+    item_put a.item a.access c.put_number.ensures c.put_byte.ensures c.put_access.ensures c.put_byte-2.ensures

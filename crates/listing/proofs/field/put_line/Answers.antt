@@ -4,4 +4,4 @@ use Rattle.listing.proofs.field.put_line.Goals as goal
 
 pub returns : goal.returns
 returns c = let a = c.args in
-    line_put a.words.now a.n c.put-at1.ensures c.put_number-at2.ensures c.put_byte.ensures
+    line_put a.words.now a.n c.put.ensures c.put_number.ensures c.put_byte.ensures

@@ -9,15 +9,15 @@ use Rattle.point_decoding.proofs.points.channels.Goals as goal
 
 pub loop-k-init : goal.loop-k-init
 loop-k-init c = let a = c.args in
-    (omega arith, channels_none (point_value a.layout a.packed.now) a.out.now a.n)
+    channels_none (point_value a.layout a.packed.now) a.out.now a.n
 
 pub loop-k-preserved : goal.loop-k-preserved
 loop-k-preserved c = let l = c.loop-k in
     let a = c.args in
-    (omega arith, channels_more (point_value a.layout a.packed.now) a.out.now l.out _ a.n l.k l.invariant.1 c.one_channel.ensures)
+    channels_more (point_value a.layout a.packed.now) a.out.now l.out _ a.n l.k l.invariant c.one_channel.ensures
 
 pub returns : goal.returns
 returns c = let a = c.args in
     let l = c.loop-k in
-    channels_all (point_value a.layout a.packed.now) nan a.out.now l.out a.n l.k (omega arith) c.requires.packed_len.1 l.invariant.1
+    channels_all (point_value a.layout a.packed.now) nan a.out.now l.out a.n l.k (omega arith) c.requires.packed_len.1 l.invariant
     ∙ values-whole a.layout a.packed.now a.n c.requires.layout_value.0 c.requires.packed_len.0

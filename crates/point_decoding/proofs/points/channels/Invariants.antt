@@ -6,7 +6,4 @@ use Rattle.line.specs.inner.Channels.{channels_written}
 use Rattle.point_decoding.proofs.points.channels.Given as goal
 
 abbrev pub invariant-loop-k : goal.invariant-loop-k
-invariant-loop-k l = (l.k ≤ 3) × (l.out ≡ channels_written l.initial.out (point_value l.layout l.packed) l.n l.k)
-
-abbrev pub decreases-loop-k : goal.decreases-loop-k
-decreases-loop-k l = 3 - l.k
+invariant-loop-k l = l.out ≡ channels_written l.initial.out (point_value l.layout l.packed) l.n l.k

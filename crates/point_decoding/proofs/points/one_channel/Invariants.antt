@@ -6,7 +6,4 @@ use Rattle.line.specs.inner.Channels.{channel_written}
 use Rattle.point_decoding.proofs.points.one_channel.Given as goal
 
 abbrev pub invariant-loop-i : goal.invariant-loop-i
-invariant-loop-i l = (l.i ≤ l.n) × (l.at ≡ l.i * l.layout.bytes + l.field.first) × (l.out ≡ channel_written l.initial.out (point_value l.layout l.packed) l.channel l.i)
-
-abbrev pub decreases-loop-i : goal.decreases-loop-i
-decreases-loop-i l = l.n - l.i
+invariant-loop-i l = (l.at ≡ l.i * l.layout.bytes + l.field.first) × (l.out ≡ channel_written l.initial.out (point_value l.layout l.packed) l.channel l.i)

@@ -9,11 +9,10 @@ pub loop-i-preserved : goal.loop-i-preserved
 loop-i-preserved c = let l = c.loop-i in
     let h = c.loop-i-test.true in
     let are = are_bytes_lem c.args.packed.now (λ i. (c.shared_slice_known-1.given i).fits) in (
-      omega (arith, h),
-      omega (arith, next_point c.args.layout l.i 0 l.at c.step-at.ensures (omega (arith, l.invariant.1))),
-      values_more c.args.layout c.args.packed.now c.args.n c.requires.layout_value.0 c.requires.packed_len.0 c.args.out.now _ _ l.i l.at are c.requires.packed_len.1 h l.invariant.1 l.invariant.2 c.put.ensures,
+      omega (arith, next_point c.args.layout l.i 0 l.at c.step-at.ensures (omega (arith, l.invariant.0))),
+      values_more c.args.layout c.args.packed.now c.args.n c.requires.layout_value.0 c.requires.packed_len.0 c.args.out.now _ _ l.i l.at are c.requires.packed_len.1 h l.invariant.0 l.invariant.1 c.put.ensures,
     )
 
 pub returns : goal.returns
 returns c = let l = c.loop-i in
-    values-all c.args.layout c.args.packed.now c.args.n c.requires.layout_value.0 c.requires.packed_len.0 c.args.out.now _ l.i c.requires.packed_len.1 (omega arith) (omega arith) l.invariant.2
+    values-all c.args.layout c.args.packed.now c.args.n c.requires.layout_value.0 c.requires.packed_len.0 c.args.out.now _ l.i c.requires.packed_len.1 (omega arith) (omega arith) l.invariant.1

@@ -6,7 +6,4 @@ use Rattle.point_decoding.specs.inner.Points.{point_value}
 use Rattle.point_decoding.proofs.points.points.Given as goal
 
 abbrev pub invariant-loop-i : goal.invariant-loop-i
-invariant-loop-i l = (l.i ≤ l.n) × (l.at ≡ l.i * l.layout.bytes) × Filled l.initial.out (point_value l.layout l.packed) (3 * l.i) l.out
-
-abbrev pub decreases-loop-i : goal.decreases-loop-i
-decreases-loop-i l = l.n - l.i
+invariant-loop-i l = (l.at ≡ l.i * l.layout.bytes) × Filled l.initial.out (point_value l.layout l.packed) (3 * l.i) l.out

@@ -11,15 +11,13 @@ use Rattle.lists.proofs.Every.{every_next, every_end}
 use Rattle.line_values.proofs.Encodes.{eq_self}
 use Rattle.point_encoding.proofs.encode.all_numbers.Goals as goal
 
-pub loop-i-preserved : goal.loop-i-preserved
-loop-i-preserved c = let l = c.loop-i in
-    let vs = c.args.values.now in (
-      omega arith,
-      l.invariant.1 ∙ every_next (λ v. not (is_nan v)) nan l.ok vs l.i c.loop-i-test.true
-          ∙ ap (λ (b : Bool). l.ok && b && every (λ v. not (is_nan v)) (drop (l.i + 1) vs)) (sym (eq_self (get_or vs l.i nan))),
-    )
+pub loop-value-preserved : goal.loop-value-preserved
+loop-value-preserved c = let l = c.loop-value in
+    let vs = c.args.values.now in
+    l.invariant ∙ every_next (λ v. not (is_nan v)) nan l.ok vs l.value-index c.loop-value-test.true
+    ∙ ap (λ (b : Bool). l.ok && b && every (λ v. not (is_nan v)) (drop (l.value-index + 1) vs)) (sym (eq_self (get_or vs l.value-index nan)))
 
 pub returns : goal.returns
-returns c = let l = c.loop-i in
+returns c = let l = c.loop-value in
     let vs = c.args.values.now in
-    sym (l.invariant.1 ∙ ap (λ (b : Bool). l.ok && b) (every_end (λ v. not (is_nan v)) nan vs l.i (omega arith)) ∙ and_true l.ok)
+    sym (l.invariant ∙ ap (λ (b : Bool). l.ok && b) (every_end (λ v. not (is_nan v)) nan vs l.value-index (omega arith)) ∙ and_true l.ok)

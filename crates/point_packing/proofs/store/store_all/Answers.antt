@@ -15,8 +15,8 @@ next size i j at e = omega (arith, mul-add size (i + j) 1, ap (λ (k : ℕ). siz
 
 pub loop-j-init : goal.loop-j-init
 unfolding stored
-loop-j-init c = (omega arith, ap (λ (k : ℕ). c.args.size * k) (sym (add-zero c.args.i)), refl)
+loop-j-init c = (ap (λ (k : ℕ). c.args.size * k) (sym (add-zero c.args.i)), refl)
 
 pub loop-j-preserved : goal.loop-j-preserved
 loop-j-preserved c = let l = c.loop-j in
-    (omega arith, next c.args.size c.args.i l.j l.at l.invariant.1, stored_more c.args.size c.args.v c.args.i c.args.out.now l.j l.out _ l.invariant.2 (c.store8.ensures ∙ ap (λ (k : ℕ). written l.out k (byte_of (get_or c.args.v l.j 0)) 8) l.invariant.1))
+    (next c.args.size c.args.i l.j l.at l.invariant.0, stored_more c.args.size c.args.v c.args.i c.args.out.now l.j l.out _ l.invariant.1 (c.store8.ensures ∙ ap (λ (k : ℕ). written l.out k (byte_of (get_or c.args.v l.j 0)) 8) l.invariant.0))

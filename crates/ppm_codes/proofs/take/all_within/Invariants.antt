@@ -1,7 +1,6 @@
 -- `ppm_codes::take::all_within` meets its contract: what is left of the codes decides. Assumes nothing.
 use mathlib.Core.Path.{◌≡◌}
 use mathlib.Core.Bool.{◌&&◌}
-use Prim.Native.Nat.{◌≤◌, ◌-◌}
 use lib.Dec.{leb}
 use lib.ListN.{drop}
 use Rattle.lists.specs.Lists.{every}
@@ -9,7 +8,4 @@ use Rattle.ppm_codes.specs.Codes.{codes_by}
 use Rattle.ppm_codes.proofs.take.all_within.Given as goal
 
 abbrev pub invariant-loop-i : goal.invariant-loop-i
-invariant-loop-i l = (l.i ≤ l.n) × (l.within && every (λ x. leb x l.top) (drop l.i (codes_by 2 l.raster)) ≡ every (λ x. leb x l.top) (codes_by 2 l.raster))
-
-abbrev pub decreases-loop-i : goal.decreases-loop-i
-decreases-loop-i l = l.n - l.i
+invariant-loop-i l = l.within && every (λ x. leb x l.top) (drop l.i (codes_by 2 l.raster)) ≡ every (λ x. leb x l.top) (codes_by 2 l.raster)

@@ -7,6 +7,3 @@ use Rattle.ppm_header.proofs.scan.number_from.Given as goal
 
 abbrev pub invariant-loop-i : goal.invariant-loop-i
 invariant-loop-i l = (l.i ≤ 4) × (l.n < 10 ^ l.i) × (leading (4 - l.i) l.n (drop (l.at + l.i) l.s) ≡ number_from l.s l.at)
-
-abbrev pub decreases-loop-i : goal.decreases-loop-i
-decreases-loop-i l = 4 - l.i
