@@ -6,7 +6,7 @@ use Prim.Native.Nat.{ℕ, zero, suc, ◌+◌, ◌*◌, ◌/◌, ◌%◌, ◌^◌
 use native.Mathlib.Nat.{add-zero}
 use native.Mathlib.Omega.{arith}
 use lib.Ieee.{Float, nan, is_nan}
-use lib.ListN.{length, get_or}
+use lib.ListN.{length, get_or, get_or-eq_default}
 use mir.Val.{bool_byte}
 use Rattle.lists.specs.Lists.{one_if, count}
 use Rattle.lists.specs.Bytes.{byte_of}
@@ -19,7 +19,7 @@ use Rattle.layout.proofs.Facts.{groups_valid, groups_say}
 use Rattle.scale.specs.declared.Scale.{Scale}
 use Rattle.scale.specs.Scale.{scale_of}
 use Rattle.scales.specs.Channel.{scale_at}
-use Rattle.quantization.specs.Code.{code_of}
+use Rattle.quantization.specs.Code.{code_of, is_cut_code}
 use Rattle.line.specs.Group.{code_of_byte, group_byte}
 use Rattle.line.specs.inner.Groups.{group_shared}
 use Rattle.line.proofs.Grouped.{group_looked}
@@ -132,3 +132,18 @@ quantized-bytes l vs ok i j v fits e h =
     let d : 2 ^ l.depth ≡ 256 = ap (λ (n : ℕ). 2 ^ n) (groups_say l ok).depth in
     ap (λ (x : ℕ). byte_of x j) e
     ∙ number-bytes (quantized_of l vs) i j (λ k q. omega (arith, d, code_lt l (quantized_of l vs) k (quantized-within l vs (groups_valid l ok)) q)) (omega (arith, length-quantized l vs)) h
+
+-- a group beyond the line has number 0, and no cut
+module _ (l : Layout) (vs : List Float) (ok : valid_groups l ≡ true) (i : ℕ) (h : length vs ≤ 6 * i) where
+  no_code : (k : ℕ) → 6 * i ≤ k → get_or (quantized_of l vs) k 0 ≡ 0
+  no_code k g = get_or-eq_default (quantized_of l vs) 0 (omega (arith, length-quantized l vs))
+
+  no_cut : (k : ℕ) → 6 * i ≤ k → one_if (value_cut l vs k) ≡ 0
+  unfolding value_cut code_of
+  no_cut k g = ap (λ (v : Float). one_if (is_cut_code (code_of (scale_at l (k % 3)) v))) (get_or-eq_default vs nan (omega arith))
+
+  pub beyond_number : 0 ≡ group_number (quantized_of l vs) i
+  beyond_number = omega (arith, number_is (quantized_of l vs) i, no_code (6 * i) (omega arith), no_code (6 * i + 1) (omega arith), no_code (6 * i + 2) (omega arith), no_code (6 * i + 3) (omega arith))
+
+  pub beyond_cuts : count (6 * i) (counted_cut l vs) + 0 ≡ count (6 * (i + 1)) (counted_cut l vs)
+  beyond_cuts = omega (arith, cuts_more l vs ok i, no_cut (6 * i) (omega arith), no_cut (6 * i + 1) (omega arith), no_cut (6 * i + 2) (omega arith), no_cut (6 * i + 3) (omega arith))

@@ -10,6 +10,7 @@ ghost use Rattle.scales.specs.inner.Fitted.{Fitted};
 ghost use Rattle.line.specs.Group.{group_byte};
 ghost use Rattle.line.specs.inner.Groups.{group_shared, groups_packed};
 ghost use Rattle.line_values.specs.Encode.{quantized_of, cuts_of, all_numbers};
+ghost use Rattle.unit_encoding.specs.Number.{IsNumber};
 ghost use Rattle.unit_encoding.specs.Units.{UnitFacts};
 ghost use Rattle.group_encoding.specs.inner.Groups.{group_number, counted_cut};
 
@@ -41,10 +42,11 @@ impl Groups<'_> {
     // Value j of group i: one of the four that are looked at.
     fn number(self, i: usize, j: usize) -> Number
         requires { (i < self.n) × (j < 4) }
-        ensures { result.value ≡ get_or self.entry.values.now (6 * i + j) nan }
+        ensures value { result.value ≡ get_or self.entry.values.now (6 * i + j) nan }
+        ensures number { IsNumber result.value }
     {
         Number {
-            value: self.values[6 * i + j],
+            value: self.values[6 * i + j] as f64,
         }
     }
 }
@@ -70,7 +72,12 @@ impl Units for Groups<'_> {
         self.n
     }
 
-    fn joined(self, i: usize) -> Joined {
+    #[inline(always)]
+    fn joined(self, start: usize, j: usize) -> Joined {
+        if !unit_encoding::is_there(self.n, start, j) {
+            return Joined { number: 0, cuts: 0 };
+        }
+        let i = start + j;
         let first = self.number(i, 0).code(self.brightness);
         let cb = self.number(i, 1).code(self.difference);
         let cr = self.number(i, 2).code(self.difference);

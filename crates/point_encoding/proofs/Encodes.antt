@@ -2,10 +2,10 @@
 use mathlib.Core.Path.{◌≡◌, refl, sym, ap, ◌∙◌}
 use mathlib.Core.Bool.{Bool, false, ◌&&◌}
 use mathlib.Core.List.{List}
-use Prim.Native.Nat.{ℕ, ◌+◌, ◌*◌, ◌≤◌}
+use Prim.Native.Nat.{ℕ, ◌+◌, ◌*◌, ◌%◌, ◌≤◌}
 use native.Mathlib.Omega.{arith}
-use lib.Ieee.{Float}
-use lib.ListN.{length, get_or}
+use lib.Ieee.{Float, nan}
+use lib.ListN.{length, get_or, get_or-eq_default}
 use Rattle.lists.specs.Lists.{one_if, count}
 use Rattle.lists.proofs.Counts.{count_le, count_same, count_point}
 use Rattle.layout.specs.declared.Layout.{Layout}
@@ -19,7 +19,10 @@ use Rattle.float_scale.specs.declared.FloatScale.{FloatScale}
 use Rattle.point_encoding.specs.inner.Floats.{float_scales, InFloats}
 use Rattle.parameters.specs.declared.channels.Channels.{Channels}
 use Rattle.scale.specs.declared.Scale.{Scale}
-use Rattle.line_values.specs.Encode.{value_cut, cuts_of}
+use Rattle.quantization.specs.Code.{code_of, is_cut_code}
+use Rattle.scales.specs.Channel.{scale_at}
+use Rattle.line_values.specs.Encode.{quantized_of, value_cut, cuts_of}
+use Rattle.line_values.proofs.Encodes.{length-quantized}
 
 -- the scales in f64 are the layout's
 pub in_floats_fit : {l : Layout} {s : Channels Scale} {f : Channels FloatScale} → Fitted l s → f ≡ float_scales s → InFloats l f
@@ -57,3 +60,18 @@ pub joined_by : (l : Layout) (cs : List ℕ) (i : ℕ) {a b c : ℕ} → a ≡ g
     → in_place l a b c ≡ joined l cs i
 unfolding joined
 joined_by l cs i {a} {b} {c} p q r = rw (p, q, r)
+
+-- a point beyond the line has number 0, and no cut
+module _ (l : Layout) (vs : List Float) (i : ℕ) (h : length vs ≤ 3 * i) where
+  no_code : (k : ℕ) → 3 * i ≤ k → 0 ≡ get_or (quantized_of l vs) k 0
+  no_code k g = sym (get_or-eq_default (quantized_of l vs) 0 (omega (arith, length-quantized l vs)))
+
+  no_cut : (k : ℕ) → 3 * i ≤ k → 0 ≡ one_if (value_cut l vs k)
+  unfolding value_cut code_of
+  no_cut k g = sym (ap (λ (v : Float). one_if (is_cut_code (code_of (scale_at l (k % 3)) v))) (get_or-eq_default vs nan (omega arith)))
+
+  pub beyond_number : 0 ≡ joined l (quantized_of l vs) i
+  beyond_number = omega (arith, joined_by l (quantized_of l vs) i (no_code (3 * i) (omega arith)) (no_code (3 * i + 1) (omega arith)) (no_code (3 * i + 2) (omega arith)))
+
+  pub beyond_cuts : count (3 * i) (value_cut l vs) + 0 ≡ count (3 * (i + 1)) (value_cut l vs)
+  beyond_cuts = cuts_more l vs i (no_cut (3 * i) (omega arith)) (no_cut (3 * i + 1) (omega arith)) (no_cut (3 * i + 2) (omega arith))

@@ -7,6 +7,7 @@ ghost use Rattle.scales.specs.inner.Fitted.{Fitted};
 ghost use Rattle.line.specs.Line.{joined as joinedOf, point_byte};
 ghost use Rattle.line.specs.inner.Points.{points_packed};
 ghost use Rattle.lists.specs.Lists.{count};
+ghost use Rattle.unit_encoding.specs.Number.{IsNumber};
 ghost use Rattle.unit_encoding.specs.Units.{UnitFacts};
 ghost use Rattle.point_encoding.specs.inner.Floats.{float_scales, InFloats};
 ghost use Rattle.line_values.specs.Encode.{quantized_of, value_cut, cuts_of, all_numbers};
@@ -47,10 +48,11 @@ impl Points<'_> {
     // Value k of the line.
     fn number(self, k: usize) -> Number
         requires { k < length self.values.now }
-        ensures { result.value ≡ get_or self.entry.values.now k nan }
+        ensures value { result.value ≡ get_or self.entry.values.now k nan }
+        ensures number { IsNumber result.value }
     {
         Number {
-            value: self.values[k],
+            value: self.values[k] as f64,
         }
     }
 }
@@ -76,7 +78,12 @@ impl Units for Points<'_> {
         self.n
     }
 
-    fn joined(self, i: usize) -> Joined {
+    #[inline(always)]
+    fn joined(self, start: usize, j: usize) -> Joined {
+        if !unit_encoding::is_there(self.n, start, j) {
+            return Joined { number: 0, cuts: 0 };
+        }
+        let i = start + j;
         let scales = self.scales;
         let a = self.number(3 * i).code(scales.channel0);
         let b = self.number(3 * i + 1).code(scales.channel1);

@@ -3,7 +3,9 @@ use mathlib.Core.Path.{◌≡◌, refl, ap, ◌∙◌}
 use mathlib.Core.List.{List}
 use Prim.Native.Nat.{ℕ, ◌*◌, ◌/◌}
 use native.Mathlib.Omega.{arith}
+use borrow.Author.Tests.{eq-eqb}
 use lib.ListN.{length}
+use Rattle.lists.proofs.Tests.{stop}
 use Rattle.lists.specs.Lists.{tabulate}
 use Rattle.line.specs.Group.{group_byte}
 use Rattle.float_scale.specs.inner.Floats.{float_scale}
@@ -36,4 +38,4 @@ returns-clause-memory c =
     let l = c.args.layout in
     let codes : List ℕ = quantized_of l c.args.values.now in
     let groups : c.args.n ≡ length codes / 6 = omega (arith, length-quantized l c.args.values.now, c.requires.values_len.0) in
-    c.encode.ensures.memory c.requires.values_len.1 ∙ ap (λ (m : ℕ). tabulate (4 * m) (group_byte codes)) groups
+    c.encode.ensures.memory ∙ stop _ (eq-eqb (length c.args.out.now) (4 * c.args.n) c.requires.values_len.1) ∙ ap (λ (m : ℕ). tabulate (4 * m) (group_byte codes)) groups

@@ -3,7 +3,9 @@ use mathlib.Core.Path.{◌≡◌, refl, ap, ◌∙◌}
 use mathlib.Core.List.{List}
 use Prim.Native.Nat.{ℕ, ◌*◌, ◌/◌}
 use native.Mathlib.Omega.{arith}
+use borrow.Author.Tests.{eq-eqb}
 use lib.ListN.{length}
+use Rattle.lists.proofs.Tests.{stop}
 use Rattle.lists.specs.Lists.{tabulate}
 use Rattle.layout.proofs.Facts.{Points as PointFacts, points_say, not_grouped}
 use Rattle.line.specs.Line.{point_byte}
@@ -37,4 +39,4 @@ returns-clause-memory c =
     let l = c.args.layout in
     let codes : List ℕ = quantized_of l c.args.values.now in
     let points : c.args.n ≡ length codes / 3 = omega (arith, length-quantized l c.args.values.now) in
-    c.encode.ensures.memory c.requires.values_len.1 ∙ ap (λ (m : ℕ). tabulate (l.bytes * m) (point_byte l codes)) points
+    c.encode.ensures.memory ∙ stop _ (eq-eqb (length c.args.out.now) (l.bytes * c.args.n) c.requires.values_len.1) ∙ ap (λ (m : ℕ). tabulate (l.bytes * m) (point_byte l codes)) points

@@ -2,17 +2,16 @@
 use mathlib.Core.Path.{sym, ap, ◌∙◌, subst}
 use mathlib.Core.Bool.{not}
 use lib.Dec.{T}
-use lib.Ieee.{binary32, fits, is_nan}
-use Rattle.std.proofs.Common.{rules}
+use lib.Ieee.{is_nan}
 use Rattle.float_scale.specs.declared.FloatScale.{FloatScale}
 use Rattle.float_scale.specs.inner.Floats.{code_in}
 use Rattle.quantization.proofs.Codes.{float_code_lem}
 use Rattle.std.specs.Prelude.{Some}
 use Rattle.unit_encoding.proofs.number.Number.code.Goals as goal
 
-pub returns : goal.returns
-returns c =
+pub returns-clause-exact : goal.returns-clause-exact
+returns-clause-exact c =
     let v = c.args.self in
-    let held : T (fits binary32 v.value) = search rules in
-    let known : T (not (is_nan v.value)) = subst T (sym (ap not v.number)) tt in
-    λ sc fine is. ap Some (c.code.ensures ∙ ap (λ (f : FloatScale). code_in f v.value) is) ∙ float_code_lem sc fine v.value held known
+    λ sc fine is number.
+    let known : T (not (is_nan v.value)) = subst T (sym (ap not number.1)) tt in
+    ap Some (c.code.ensures ∙ ap (λ (f : FloatScale). code_in f v.value) is) ∙ float_code_lem sc fine v.value number.0 known

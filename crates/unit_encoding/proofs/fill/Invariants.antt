@@ -1,9 +1,9 @@
--- `unit_encoding::encode` meets its contract: each turn fills in eight units, and then one, and counts their cuts. Assumes nothing.
+-- `unit_encoding::fill` meets its contract: each turn fills in eight units, and then one, and counts their cuts. Assumes nothing.
 use Prim.Native.Nat.{◌-◌, ◌*◌, ◌≤◌}
 use mathlib.Core.Path.{◌≡◌}
 use lib.ListN.{length}
 use Rattle.lists.proofs.Filled.{Filled}
-use Rattle.unit_encoding.proofs.encode.Given as goal
+use Rattle.unit_encoding.proofs.fill.Given as goal
 
 abbrev pub invariant-loop-i : goal.invariant-loop-i
 invariant-loop-i g l =
