@@ -25,10 +25,16 @@ pub(crate) fn store_all(out: &mut [u8], size: usize, i: usize, v: [u64; 8], coun
     }
 }
 
-// The lowest `size`.
+// The lowest `size`, a byte a turn: a copy of so few bytes, of a length that the compiler does not know, would be a call of
+// `memcpy`. (Not inlined: it is called for a line's last points alone, and inlined made the loop of eight points a sixth longer.)
+#[inline(never)]
 pub(crate) fn store_low(out: &mut [u8], at: usize, size: usize, v: u64)
-    requires { (at + size ≤ length out.old) × (size ≤ 8) }
+    requires { at + size ≤ length out.old }
     ensures { out.new ≡ written out.old at (byte_of v) size }
 {
-    out[at..at + size].copy_from_slice(&v.to_le_bytes()[..size]);
+    let mut rest = v;
+    for j in 0..size {
+        out[at + j] = (rest % 256) as u8;
+        rest /= 256;
+    }
 }

@@ -37,9 +37,8 @@ loop-pair-preserved c =
 
 pub store_low-requires : goal.store_low-requires
 store_low-requires c =
-    let facts : PointFacts c.args.layout = points_say c.args.layout c.requires.layout_value.0 in
     let l = c.loop-i in
-    (omega (arith, l.invariant.0, l.invariant.1.long, point_fits c.args.layout.bytes l.i c.args.n (omega arith)), facts.bytes_most)
+    omega (arith, l.invariant.0, l.invariant.1.long, point_fits c.args.layout.bytes l.i c.args.n (omega arith))
 
 pub loop-i-preserved : goal.loop-i-preserved
 loop-i-preserved c = let l = c.loop-i in

@@ -1,5 +1,5 @@
 -- `point_packing::pack::points` meets its contract: each turn fills in two points' bytes, and then one's. Assumes nothing.
-use Prim.Native.Nat.{◌*◌, ◌-◌, ◌≤◌}
+use Prim.Native.Nat.{◌*◌}
 use mathlib.Core.Path.{◌≡◌}
 use lib.ListN.{length}
 use Rattle.lists.proofs.Filled.{Filled}

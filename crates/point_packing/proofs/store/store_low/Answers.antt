@@ -1,18 +1,20 @@
--- `point_packing::store_low` meets its contract. Assumes nothing.
-use mathlib.Core.Path.{refl, ap, ◌∙◌}
-use mathlib.Core.List.{List}
-use Prim.Native.Nat.{ℕ, ◌+◌}
+-- `point_packing::store_low` meets its contract: each turn stores one byte more. Assumes nothing.
+use mathlib.Core.Path.{◌≡◌, ap, ◌∙◌, sym}
+use Prim.Native.Nat.{ℕ, ◌+◌, ◌/◌, ◌%◌, ◌^◌}
+use native.Mathlib.Nat.{div-div-eq-div-mul, pow-suc}
+use native.Mathlib.Numerals.{add-one}
 use native.Mathlib.Omega.{arith}
-use lib.ListN.{length, get_or, take, length-take}
-use Rattle.std.proofs.Common.{get_or-take}
-use Rattle.std.specs.Int.{w64, to_le_bytes}
 use Rattle.lists.specs.Bytes.{byte_of}
-use Rattle.line.proofs.Stores.{copied}
-use Rattle.point_packing.proofs.Bytes.{low_bytes}
+use Rattle.lists.proofs.Lists.{written_none, written_more}
 use Rattle.point_packing.proofs.store.store_low.Goals as goal
 
-pub returns : goal.returns
-returns c = let a = c.args in
-    let same = c.copy_from_slice.ensures.after ∙ ap (take a.size) c.to_le_bytes.ensures in
-    copied 0 a.out.now a.at (byte_of a.v) c.copy_from_slice.new.self a.size (a.at + a.size) refl c.requires.0 (ap length same ∙ length-take a.size (to_le_bytes w64 a.v) ∙ omega arith)
-    (λ j h. ap (λ (bs : List ℕ). get_or bs j 0) same ∙ get_or-take a.size (to_le_bytes w64 a.v) j 0 h ∙ low_bytes a.v j (omega arith))
+shorter : (v rest j : ℕ) → rest ≡ v / 256 ^ j → rest / 256 ≡ v / 256 ^ (j + 1)
+shorter v rest j e = ap (λ (x : ℕ). x / 256) e ∙ div-div-eq-div-mul v (256 ^ j) 256 ∙ ap (λ (x : ℕ). v / x) (sym (ap (λ (k : ℕ). 256 ^ k) (add-one j) ∙ pow-suc 256 j))
+
+pub loop-j-init : goal.loop-j-init
+loop-j-init c = (omega arith, written_none _ _ _)
+
+pub loop-j-preserved : goal.loop-j-preserved
+loop-j-preserved c = let a = c.args in
+    let l = c.loop-j in
+    (shorter a.v l.rest l.j l.invariant.0, written_more a.out.now l.out a.at (byte_of a.v) l.j (l.rest % 256) l.invariant.1 (ap (λ (x : ℕ). x % 256) l.invariant.0))
