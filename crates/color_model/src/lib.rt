@@ -31,6 +31,7 @@ fn convert(conversion: Conversion, codes: &[u16], out: &mut [u16]) -> Result<(us
 // Converts a line of R', G', B' to Y', Cb, Cr, by the weights of the primaries. Every code of the depth is taken; those that
 // come out are clamped to the ends of their range, and the answer counts those that lay outside (A4). Refused: 9, then 13, then
 // 14.
+// (A `let .. else`, since `ok_or` and `?` would copy the conversion, some 200 bytes, twice for every call.)
 pub fn rgb_to_ycbcr(
     primaries: u8,
     depth: u8,
@@ -42,9 +43,9 @@ pub fn rgb_to_ycbcr(
     ensures answer { result ≡ to_ycbcr_answer primaries depth range_in range_out codes.now (length out.old) }
     ensures memory { out.new ≡ to_ycbcr_output primaries depth range_in range_out codes.now out.old }
 {
-    let conversion = color_rows::to_ycbcr(primaries, depth, range_in, range_out).ok_or(
-        Refusal::Outside,
-    )?;
+    let Some(conversion) = color_rows::to_ycbcr(primaries, depth, range_in, range_out) else {
+        return Err(Refusal::Outside);
+    };
     convert(conversion, codes, out)
 }
 
@@ -60,8 +61,8 @@ pub fn ycbcr_to_rgb(
     ensures answer { result ≡ to_rgb_answer primaries depth range_in range_out codes.now (length out.old) }
     ensures memory { out.new ≡ to_rgb_output primaries depth range_in range_out codes.now out.old }
 {
-    let conversion = color_rows::to_rgb(primaries, depth, range_in, range_out).ok_or(
-        Refusal::Outside,
-    )?;
+    let Some(conversion) = color_rows::to_rgb(primaries, depth, range_in, range_out) else {
+        return Err(Refusal::Outside);
+    };
     convert(conversion, codes, out)
 }
