@@ -26,7 +26,7 @@ pub extern "C" fn imurraqi_card_read(
 {
     let shown = match card::read(card, edition) {
         Ok(shown) => shown,
-        Err(refusal) => return refused(refusal),
+        Err(refusal) => return refused(refusal.number()),
     };
     *layout = bytes_of(shown.layout);
     *facts = [
@@ -72,6 +72,6 @@ pub extern "C" fn imurraqi_stack_find(stack: &[u8], edition: u8, item: u64) -> i
 {
     match card::locate(stack, edition, item) {
         Ok(index) => index as i64,
-        Err(refusal) => refused(refusal),
+        Err(refusal) => refused(refusal.number()),
     }
 }

@@ -21,7 +21,7 @@ pub extern "C" fn imurraqi_descriptor_read(bytes: &[u8], layout: &mut [u8; 9]) -
             *layout = bytes_of(accepted);
             0
         }
-        Err(refusal) => refused(refusal),
+        Err(refusal) => refused(refusal.number()),
     }
 }
 

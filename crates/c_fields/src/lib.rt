@@ -15,7 +15,7 @@ pub extern "C" fn imurraqi_field_code(layout: &[u8; 9], channel: u8, bytes: &[u8
 {
     match field::field_code(layout_of(layout), channel, bytes) {
         Ok(code) => code as i64,
-        Err(refusal) => refused(refusal),
+        Err(refusal) => refused(refusal.number()),
     }
 }
 
@@ -30,6 +30,6 @@ pub extern "C" fn imurraqi_field_bytes(layout: &[u8; 9], channel: u8, first: &mu
             *first = field.first as u8;
             field.count as i64
         }
-        Err(refusal) => refused(refusal),
+        Err(refusal) => refused(refusal.number()),
     }
 }

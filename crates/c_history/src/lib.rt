@@ -113,6 +113,6 @@ pub extern "C" fn imurraqi_replay(
             *decoded = decoded_numbers(ended.decoding);
             0
         }
-        Err(refusal) => refused(refusal),
+        Err(refusal) => refused(refusal.number()),
     }
 }

@@ -27,7 +27,7 @@ pub extern "C" fn imurraqi_decode_point(layout: &[u8; 9], bytes: &[u8], point: &
             *point = [decoded.channel0, decoded.channel1, decoded.channel2];
             ONE_POINT
         }
-        Err(refusal) => refused(refusal),
+        Err(refusal) => refused(refusal.number()),
     }
 }
 

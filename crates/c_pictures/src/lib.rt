@@ -16,7 +16,7 @@ fn picture_number(answer: Result<u32, Refusal>) -> i64
 {
     match answer {
         Ok(count) => count as i64,
-        Err(refusal) => refused(refusal),
+        Err(refusal) => refused(refusal.number()),
     }
 }
 

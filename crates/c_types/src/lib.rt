@@ -3,7 +3,6 @@
 #![tactic(auto)]
 
 ghost use Rattle.std.specs.Prelude.{◌≡◌, cond, pos, neg_ℤ};
-ghost use Rattle.refusal.specs.Refusal.{number_of};
 ghost use Rattle.c_types.specs.Layouts.{layout_of, layout_bytes, facts_of};
 ghost use Rattle.c_types.specs.Numbers.{written_number, line_number, without_cuts, clamped_number, cuts_after, counted};
 
@@ -12,11 +11,11 @@ use layout::Layout;
 use line::MOST_POINTS;
 use refusal::Refusal;
 
-// A refusal: minus its number.
-pub fn refused(refusal: Refusal) -> i64
-    ensures { result ≡ neg_ℤ (pos (number_of refusal)) }
+// A refusal's number, as C gets it: minus the number.
+pub fn refused(number: u8) -> i64
+    ensures { result ≡ neg_ℤ (pos number) }
 {
-    -(refusal.number() as i64)
+    -(number as i64)
 }
 
 // What answers nothing else: 0, or its refusal.
@@ -25,7 +24,7 @@ pub fn written_number(answer: Result<(), Refusal>) -> i64
 {
     match answer {
         Ok(()) => 0,
-        Err(refusal) => refused(refusal),
+        Err(refusal) => refused(refusal.number()),
     }
 }
 
@@ -37,7 +36,7 @@ pub fn line_number(answer: Result<usize, Refusal>) -> i64
     match answer {
         Ok(count) if count <= MOST_POINTS => count as i64,
         Ok(_) => 0,
-        Err(refusal) => refused(refusal),
+        Err(refusal) => refused(refusal.number()),
     }
 }
 

@@ -30,7 +30,7 @@ pub extern "C" fn imurraqi_dequantize(
             *value = difference;
             1
         }
-        Dequantized::Refused(refusal) => refused(refusal),
+        Dequantized::Refused(refusal) => refused(refusal.number()),
     }
 }
 
@@ -52,6 +52,6 @@ pub extern "C" fn imurraqi_quantize(
             *cuts = clamped.cut as u32;
             clamped.code as i64
         }
-        Err(refusal) => refused(refusal),
+        Err(refusal) => refused(refusal.number()),
     }
 }

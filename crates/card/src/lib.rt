@@ -8,7 +8,7 @@ pub use card_finder::find_card;
 pub use card_reader::read;
 pub use card_table::{Card, Facts};
 pub use card_writer::write;
-use refusal::Refusal;
+pub use refusal::Refusal;
 pub use stack::{find, locate};
 
 // Reads a card at an edition and writes what it shows at the same. Refused: as reading is, then 13; `out` is then as it was.

@@ -3,3 +3,4 @@
 
 pub use descriptor_reader::read;
 pub use descriptor_writer::write;
+pub use refusal::Refusal;

@@ -7,4 +7,5 @@ pub use encoding::{encode_line, encode_point};
 pub use field::{Field, field_bytes, field_code};
 pub use line::Point;
 pub use packing::pack_line;
+pub use refusal::Refusal;
 pub use unpacking::unpack_line;
