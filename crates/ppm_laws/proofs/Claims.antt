@@ -79,10 +79,10 @@ differs : (a b : ℕ) → eqb a b ≡ false → a ≡ b → ⊥
 differs a b e h = true≢false (sym (eq-eqb a b h) ∙ e)
 
 pub range_3_is_9 : Range3Is9
-range_3_is_9 card e packed output f r h = by_read card e packed output (range_3 card e f r h)
+range_3_is_9 card e packed output f r h = (by_read card e packed output (range_3 card e f r h), refl)
 
 pub not_open_is_17 : NotOpenIs17
-not_open_is_17 card e packed output f r o a = by_read card e packed output (not_open_lem card e f r (differs f.layout.range 3 o) (differs f.access opened a))
+not_open_is_17 card e packed output f r o a = (by_read card e packed output (not_open_lem card e f r (differs f.layout.range 3 o) (differs f.access opened a)), refl)
 
 -- ---- lengths
 
@@ -223,10 +223,10 @@ import_keeps ppm card packed item primaries k h = (
 )
 
 pub outside_is_9 : OutsideIs9
-outside_is_9 ppm item primaries card packed h = import_outside ppm item primaries card packed h
+outside_is_9 ppm item primaries card packed h = (import_outside ppm item primaries card packed h, refl)
 
 pub no_header_is_18 : NoHeaderIs18
-no_header_is_18 ppm item primaries card packed k g r = import_read_lem ppm item primaries card packed (Err k) g r ∙ ap Err (refused-by_18 ppm k r)
+no_header_is_18 ppm item primaries card packed k g r = (import_read_lem ppm item primaries card packed (Err k) g r ∙ ap Err (refused-by_18 ppm k r), refl)
 
 -- a test that leads to a refusal, the other way round
 swapped : {A : Type 0} (t : Bool) (x y : A) → cond (not t) x y ≡ cond t y x
@@ -235,16 +235,21 @@ swapped false x y = refl
 
 pub lengths_then_codes : LengthsThenCodes
 lengths_then_codes ppm item primaries card packed width height top head g r =
-    let within = codes_within (depth_of_top top) (codes_after top head ppm) in
-    import_read_lem ppm item primaries card packed (Ok (record { width = width; height = height; top = top; length = head })) g r
-    ∙ swapped (import_fits top (width * height) head (length ppm) card packed) (Err WrongLineOrOutput) (cond (not within) (Err WrongPicture) (Ok (width * height)))
-    ∙ ap (λ (a : Result ℕ Refusal). cond (import_fits top (width * height) head (length ppm) card packed) a (Err WrongLineOrOutput)) (swapped within (Err WrongPicture) (Ok (width * height)))
+    let within = codes_within (depth_of_top top) (codes_after top head ppm) in (
+      import_read_lem ppm item primaries card packed (Ok (record { width = width; height = height; top = top; length = head })) g r
+          ∙ swapped (import_fits top (width * height) head (length ppm) card packed) (Err WrongLineOrOutput) (cond (not within) (Err WrongPicture) (Ok (width * height)))
+          ∙ ap (λ (a : Result ℕ Refusal). cond (import_fits top (width * height) head (length ppm) card packed) a (Err WrongLineOrOutput)) (swapped within (Err WrongPicture) (Ok (width * height))),
+      refl,
+      refl,
+    )
 
 pub lengths_or_13 : LengthsOr13
 unfolding export_answer
-lengths_or_13 card e packed output f r o a =
-    ap (λ (x : Result Facts Refusal). export_shown x packed output) (sym (is_read card e f r (differs f.layout.range 3 o) a))
-    ∙ swapped (export_fits f packed output) (Err WrongLineOrOutput) (Ok (points_of f))
+lengths_or_13 card e packed output f r o a = (
+  ap (λ (x : Result Facts Refusal). export_shown x packed output) (sym (is_read card e f r (differs f.layout.range 3 o) a))
+      ∙ swapped (export_fits f packed output) (Err WrongLineOrOutput) (Ok (points_of f)),
+  refl,
+)
 
 pub no_length_no_import : NoLengthNoImport
 unfolding import_length

@@ -12,6 +12,7 @@ use Rattle.full_rgb.specs.Full.{full_codes}
 use Rattle.ppm_header.specs.Header.{read_header}
 use Rattle.ppm_export.specs.Export.{points_of, header_of_facts, export_fits, export_answer, export_output, export_length}
 use Rattle.ppm_card.specs.Card.{depth_of_top, bytes_of_top, import_layout, import_facts, given_known, import_fits, import_length}
+use Rattle.refusal.specs.Refusal.{number_of}
 use Rattle.refusal.specs.declared.Refusal.{Refusal}
 use Rattle.refusal.specs.declared.Refusal.TheVariants.{NotOpen, Outside, WrongLineOrOutput, WrongPicture}
 use Rattle.ppm_import.specs.Import.{codes_after, import_answer, import_card, import_packed}
@@ -83,7 +84,7 @@ ImportKeeps =
     (ppm card packed : List ℕ) (item primaries : ℕ) (k : Refusal) → import_answer ppm item primaries (length card) (length packed) ≡ Err k
     → (import_card ppm item primaries card (length packed) ≡ card) × (import_packed ppm item primaries (length card) packed ≡ packed)
 
--- ---- the rows, in numbers
+-- ---- the rows, in numbers: each with the number that the slip has for its refusal
 
 -- what the reading refuses is refused so, whatever else is wrong
 abbrev pub ReadingFirst : Type 0
@@ -91,30 +92,31 @@ ReadingFirst = (card : List ℕ) (e packed output : ℕ) (k : Refusal) → read_
 
 -- range 3 by 9, open or not; then an access that is not open by 17, whatever the lengths
 abbrev pub Range3Is9 : Type 0
-Range3Is9 = (card : List ℕ) (e packed output : ℕ) (f : Facts) → read_card card e ≡ Ok f → f.layout.range ≡ 3 → export_answer card e packed output ≡ Err Outside
+Range3Is9 = (card : List ℕ) (e packed output : ℕ) (f : Facts) → read_card card e ≡ Ok f → f.layout.range ≡ 3 → (export_answer card e packed output ≡ Err Outside) × (number_of Outside ≡ 9)
 
 abbrev pub NotOpenIs17 : Type 0
-NotOpenIs17 = (card : List ℕ) (e packed output : ℕ) (f : Facts) → read_card card e ≡ Ok f → eqb f.layout.range 3 ≡ false → eqb f.access opened ≡ false → export_answer card e packed output ≡ Err NotOpen
+NotOpenIs17 = (card : List ℕ) (e packed output : ℕ) (f : Facts) → read_card card e ≡ Ok f → eqb f.layout.range 3 ≡ false → eqb f.access opened ≡ false → (export_answer card e packed output ≡ Err NotOpen) × (number_of NotOpen ≡ 17)
 
 -- and all else that is open is exported exactly if both lengths are the picture's, and else refused by 13
 abbrev pub LengthsOr13 : Type 0
 LengthsOr13 =
     (card : List ℕ) (e packed output : ℕ) (f : Facts) → read_card card e ≡ Ok f → eqb f.layout.range 3 ≡ false → f.access ≡ opened
-    → export_answer card e packed output ≡ cond (export_fits f packed output) (Ok (points_of f)) (Err WrongLineOrOutput)
+    → (export_answer card e packed output ≡ cond (export_fits f packed output) (Ok (points_of f)) (Err WrongLineOrOutput)) × (number_of WrongLineOrOutput ≡ 13)
 
 -- an import refuses item 0 and primaries outside 1 to 4 by 9 first of all, and then what has no header of our form by 18, whatever the lengths
 abbrev pub OutsideIs9 : Type 0
-OutsideIs9 = (ppm : List ℕ) (item primaries card packed : ℕ) → given_known item primaries ≡ false → import_answer ppm item primaries card packed ≡ Err Outside
+OutsideIs9 = (ppm : List ℕ) (item primaries card packed : ℕ) → given_known item primaries ≡ false → (import_answer ppm item primaries card packed ≡ Err Outside) × (number_of Outside ≡ 9)
 
 abbrev pub NoHeaderIs18 : Type 0
-NoHeaderIs18 = (ppm : List ℕ) (item primaries card packed : ℕ) (k : Refusal) → given_known item primaries ≡ true → read_header ppm ≡ Err k → import_answer ppm item primaries card packed ≡ Err WrongPicture
+NoHeaderIs18 = (ppm : List ℕ) (item primaries card packed : ℕ) (k : Refusal) → given_known item primaries ≡ true → read_header ppm ≡ Err k → (import_answer ppm item primaries card packed ≡ Err WrongPicture) × (number_of WrongPicture ≡ 18)
 
 -- and all else is imported exactly if the lengths are the header's, else refused by 13, and no code is above the largest, else by 18
 abbrev pub LengthsThenCodes : Type 0
 LengthsThenCodes =
     (ppm : List ℕ) (item primaries card packed width height top head : ℕ) → given_known item primaries ≡ true → read_header ppm ≡ Ok (record { width = width; height = height; top = top; length = head })
-    → import_answer ppm item primaries card packed
-    ≡ cond (import_fits top (width * height) head (length ppm) card packed) (cond (codes_within (depth_of_top top) (codes_after top head ppm)) (Ok (width * height)) (Err WrongPicture)) (Err WrongLineOrOutput)
+    → (import_answer ppm item primaries card packed
+    ≡ cond (import_fits top (width * height) head (length ppm) card packed) (cond (codes_within (depth_of_top top) (codes_after top head ppm)) (Ok (width * height)) (Err WrongPicture)) (Err WrongLineOrOutput))
+    × (number_of WrongPicture ≡ 18) × (number_of WrongLineOrOutput ≡ 13)
 
 -- ---- the lengths told are those that are taken
 
